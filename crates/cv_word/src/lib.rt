@@ -1,0 +1,13 @@
+//! Words of 1, 4 and 8 bytes, the state of a core, and what every crate above shares.
+//!
+//! A word is a list of bytes whose lowest comes first, and sums of words are taken modulo 2^64. The
+//! contracts here are equations with the definitions of `specs/`, which the crates above cite too.
+#![tactic(auto)]
+
+mod no_memory;
+mod registers;
+mod words;
+
+pub use no_memory::NoMemory;
+pub use registers::{Flags, Registers, Taint};
+pub use words::{le32, le64, put_le, sext};
