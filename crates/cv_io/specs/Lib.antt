@@ -1,0 +1,6 @@
+-- What is outside the program: counts of faults, files under names, bytes put out, and all three in memory.
+pub mod Counts
+pub mod Files
+pub mod Output
+pub mod FilesInMemory
+pub mod OutputInMemory

@@ -1,0 +1,19 @@
+//! Files and bytes outside the program, as contracts see them.
+//!
+//! A [`Store`] is files under names, and a [`Sink`] takes bytes. Either may tell what it holds, as a
+//! map of names to bytes and as a list of bytes, or tell nothing, as real files and standard output
+//! do. Either counts its faults: a call that answers `Failed` has raised that count.
+//! [`MemStore`] and [`MemSink`] hold all in memory, tell it, and fail at the calls that they are given.
+#![tactic(auto)]
+
+mod memory_sink;
+mod memory_store;
+mod sink;
+mod store;
+#[cfg(test)]
+mod tests;
+
+pub use memory_sink::MemSink;
+pub use memory_store::MemStore;
+pub use sink::{Sink, SinkError};
+pub use store::{LONGEST_LOAD, Store, StoreError};
