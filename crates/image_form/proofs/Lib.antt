@@ -1,0 +1,5 @@
+pub mod Numbers
+pub mod Fields
+pub mod Spelled
+pub mod Written
+pub mod Laws
