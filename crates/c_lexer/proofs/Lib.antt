@@ -1,0 +1,9 @@
+pub mod Lists
+pub mod CommentLemmas
+pub mod FirstBytes
+pub mod NumberLemmas
+pub mod PieceLemmas
+pub mod QuotedLemmas
+pub mod ReadsLemmas
+pub mod SignLemmas
+pub mod Steps
