@@ -1,0 +1,5 @@
+mod Numbers
+pub mod Tables
+mod Spelled
+mod Taken
+mod Laws
