@@ -1,0 +1,269 @@
+-- What begins at a place of the code.
+use Rattle.std.proofs.Common.{◌≡◌, ◌≢◌, ℕ, suc, ◌+◌, ◌-◌, ◌<◌, ◌≤◌, Bool, true, false, List, [], ◌∷◌, ◌++◌, length, take, drop, get_or, Option, Some, None, refl, sym, ◌∙◌, ap, subst, arith, ◌⊎◌, inl, inr, length-append, length-take, length-drop}
+use Rattle.std.proofs.lemmas.List.{length-map}
+use Rattle.std.specs.Prelude.{IfSome, IfNone}
+use Rattle.std.specs.Option.{option_map}
+use Rattle.std.proofs.lemmas.Bool.{cases_eq}
+use Rattle.x64_decode.specs.Spelling.{number, rex, between, spelling}
+use Rattle.x64_decode.specs.Reading.{reg_of, instruction_at}
+use Rattle.x64_decode.specs.declared.instr.Reg.{Reg}
+use Rattle.x64_decode.specs.declared.instr.Instr.{Instr}
+use Rattle.x64_decode.proofs.Tables.{number_reg}
+use Rattle.magic_words.specs.MagicWords.{call_word, return_word, BeginsWord}
+use Rattle.magic_words.specs.declared.word.Word.{Word}
+use Rattle.magic_words.specs.declared.word.Word.TheVariants as word
+use Rattle.code_sweep.specs.Units.{inverse, check_tail, check_then, return_unit, call_unit}
+use Rattle.code_sweep.specs.declared.item.Item.{Item}
+use Rattle.code_sweep.specs.declared.item.Item.TheVariants.{Call, Ret, Plain, ReturnUnit, CallUnit}
+use Rattle.code_sweep.specs.declared.item.Placed.{Placed}
+use Rattle.code_sweep.specs.Listing.{IsChain, item_bytes, Begins, NoWord, NoReturnUnit, NoCallUnit, StandsAlone, StandsAt}
+
+pub call_found : (prefix bytes unit : List ℕ) (register bits : ℕ) → register < 16 → bits < 32 → length unit ≡ 42 →
+    unit ≡ rex false register 10 ∷ (0x89 ∷ (between register 10 ∷ check_then (call_word bits prefix) 0xd2)) → take (length unit) bytes ≡ unit →
+    (r : Reg) × (b : ℕ) × (b < 32) × (take 42 bytes ≡ call_unit prefix r b)
+call_found prefix bytes unit register bits small few long is found = (
+  reg_of register,
+  bits,
+  few,
+  ap (λ n. take n bytes) (sym long) ∙ found ∙ is
+      ∙ ap (λ n. rex false n 10 ∷ (0x89 ∷ (between n 10 ∷ check_then (call_word bits prefix) 0xd2))) (sym (number_reg register small)),
+)
+
+-- ---- words
+
+call_begins : (prefix bytes : List ℕ) (bits : ℕ) → length prefix ≡ 6 → BeginsWord bytes prefix (word.Call bits) → Begins prefix bytes (Call bits)
+unfolding item_bytes
+call_begins prefix bytes bits six b = (b.proper, ap (λ n. take n bytes) (let e : suc (suc (length prefix)) ≡ 8 = omega arith in e) ∙ b.stands)
+
+ret_begins : (prefix bytes : List ℕ) (bit : ℕ) → length prefix ≡ 6 → BeginsWord bytes prefix (word.Ret bit) → Begins prefix bytes (Ret bit)
+unfolding item_bytes
+ret_begins prefix bytes bit six b = (b.proper, ap (λ n. take n bytes) (let e : suc (suc (length prefix)) ≡ 8 = omega arith in e) ∙ b.stands)
+
+begins_call : (prefix bytes : List ℕ) (bits : ℕ) → length prefix ≡ 6 → Begins prefix bytes (Call bits) → BeginsWord bytes prefix (word.Call bits)
+unfolding item_bytes
+begins_call prefix bytes bits six b = record { proper = b.0; stands = ap (λ n. take n bytes) (let e : 8 ≡ suc (suc (length prefix)) = omega arith in e) ∙ b.1 }
+
+begins_ret : (prefix bytes : List ℕ) (bit : ℕ) → length prefix ≡ 6 → Begins prefix bytes (Ret bit) → BeginsWord bytes prefix (word.Ret bit)
+unfolding item_bytes
+begins_ret prefix bytes bit six b = record { proper = b.0; stands = ap (λ n. take n bytes) (let e : 8 ≡ suc (suc (length prefix)) = omega arith in e) ∙ b.1 }
+
+no_word : (prefix bytes : List ℕ) → length prefix ≡ 6 → ((w : Word) → BeginsWord bytes prefix w → ⊥) → NoWord prefix bytes
+no_word prefix bytes six none bits = (λ b. none (word.Call bits) (begins_call prefix bytes bits six b), λ b. none (word.Ret bits) (begins_ret prefix bytes bits six b))
+
+-- the kinds of words differ, and so do the bits of one kind
+second_cell : (a b c d : ℕ) (xs ys : List ℕ) → a ∷ (b ∷ xs) ≡ c ∷ (d ∷ ys) → b ≡ d
+second_cell a b c d xs ys e = cc
+
+first_cell : (a b c d : ℕ) (xs ys : List ℕ) → a ∷ (b ∷ xs) ≡ c ∷ (d ∷ ys) → a ≡ c
+first_cell a b c d xs ys e = cc
+
+kinds_differ : (a b : ℕ) → a ≡ 0x11 → b ≡ 0x22 → a ≡ b → ⊥
+kinds_differ a b e f same = omega arith
+
+two_kinds : (prefix bytes : List ℕ) (bits bit : ℕ) → BeginsWord bytes prefix (word.Call bits) → BeginsWord bytes prefix (word.Ret bit) → ⊥
+two_kinds prefix bytes bits bit a b = kinds_differ 0x11 0x22 refl refl (second_cell bits 0x11 bit 0x22 prefix prefix (sym a.stands ∙ b.stands))
+
+-- what a word at a place makes of it
+pub record WordItem (w : Word) (place : ℕ) (r : Option (Item × ℕ)) : Type 0 where
+  pub call : (bits : ℕ) → w ≡ word.Call bits → place ≡ 0 → r ≡ Some (Call bits, 8)
+  pub other : ((bits : ℕ) → w ≡ word.Call bits → place ≡ 0 → ⊥) → r ≡ None
+
+-- the item that a word gives stands there
+abbrev pub Stands : List ℕ → List ℕ → ℕ → Option (Item × ℕ) → Type 0
+Stands prefix code place r = IfSome r (λ x. StandsAt prefix code place x.0 × (x.1 ≡ length (item_bytes prefix x.0)))
+
+not_call : (bit : ℕ) (bits : ℕ) → word.Ret bit ≡ word.Call bits → ⊥
+not_call bit bits e = cc
+
+same_bits : (a b : ℕ) → word.Call a ≡ word.Call b → a ≡ b
+same_bits a b e = cc
+
+pub word_stands : (prefix code : List ℕ) (place : ℕ) (w : Word) (r : Option (Item × ℕ)) → length prefix ≡ 6 → place < length code → BeginsWord (drop place code) prefix w → WordItem w place r → Stands prefix code place r
+unfolding item_bytes
+word_stands prefix code place (word.Call bits) r six inside b is =
+    elim (cases_eq place 0) [
+      | inl zero ↦ subst (λ (x : Option (Item × ℕ)). Stands prefix code place x) (sym (is.call bits refl zero))
+          (record { inside = inside; is = call_begins prefix (drop place code) bits six b; admitted = zero }, omega arith)
+      | inr later ↦ subst (λ (x : Option (Item × ℕ)). Stands prefix code place x) (sym (is.other (λ n e z. later z))) tt
+    ]
+word_stands prefix code place (word.Ret bit) r six inside b is =
+    subst (λ (x : Option (Item × ℕ)). Stands prefix code place x) (sym (is.other (λ n e z. not_call bit n e))) tt
+
+some_none : {A : Type 0} (x : A) → (let o : Option A = Some x in o) ≡ None → ⊥
+some_none x e = cc
+
+-- where a word gives no item, none stands there
+pub word_none : (prefix code : List ℕ) (place : ℕ) (w : Word) (r : Option (Item × ℕ)) → length prefix ≡ 6 → BeginsWord (drop place code) prefix w → WordItem w place r → r ≡ None → (item : Item) → StandsAt prefix code place item → ⊥
+word_none prefix code place (word.Call b) r six begins is none (Call bits) s = some_none (Call b, 8) (sym (is.call b refl s.admitted) ∙ none)
+word_none prefix code place (word.Ret b) r six begins is none (Call bits) s = two_kinds prefix (drop place code) bits b (begins_call prefix (drop place code) bits six s.is) begins
+word_none prefix code place (word.Call b) r six begins is none (Plain i) s = (s.is.0 b).0 (call_begins prefix (drop place code) b six begins)
+word_none prefix code place (word.Ret b) r six begins is none (Plain i) s = (s.is.0 b).1 (ret_begins prefix (drop place code) b six begins)
+word_none prefix code place w r six begins is none (Ret bit) s = s.admitted
+word_none prefix code place w r six begins is none (ReturnUnit bit) s = s.admitted
+word_none prefix code place w r six begins is none (CallUnit reg bits) s = s.admitted
+
+-- ---- where no word begins, only an instruction can stand
+pub only_plain : (prefix code : List ℕ) (place : ℕ) → length prefix ≡ 6 → ((w : Word) → BeginsWord (drop place code) prefix w → ⊥) →
+    ((i : Instr) → StandsAt prefix code place (Plain i) → ⊥) → (item : Item) → StandsAt prefix code place item → ⊥
+only_plain prefix code place six none plain (Call bits) s = none (word.Call bits) (begins_call prefix (drop place code) bits six s.is)
+only_plain prefix code place six none plain (Plain i) s = plain i s
+only_plain prefix code place six none plain (Ret bit) s = s.admitted
+only_plain prefix code place six none plain (ReturnUnit bit) s = s.admitted
+only_plain prefix code place six none plain (CallUnit r bits) s = s.admitted
+
+-- ---- units by their lengths
+
+return_length : (prefix : List ℕ) (bit : ℕ) → length prefix ≡ 6 → length (return_unit prefix bit) ≡ 56
+return_length prefix bit six = omega (arith, six, length-append (inverse prefix) (check_tail 0xe2), length-map prefix (λ (b : ℕ). 255 - b))
+
+call_length : (prefix : List ℕ) (r : Reg) (bits : ℕ) → length prefix ≡ 6 → length (call_unit prefix r bits) ≡ 42
+call_length prefix r bits six = omega (arith, six, length-append (inverse prefix) (check_tail 0xd2), length-map prefix (λ (b : ℕ). 255 - b))
+
+pub begins_return : (prefix bytes : List ℕ) (bit : ℕ) → length prefix ≡ 6 → Begins prefix bytes (ReturnUnit bit) → take 56 bytes ≡ return_unit prefix bit
+unfolding item_bytes
+begins_return prefix bytes bit six b = ap (λ n. take n bytes) (sym (return_length prefix bit six)) ∙ b.1
+
+pub return_begins : (prefix bytes : List ℕ) (bit : ℕ) → length prefix ≡ 6 → bit < 2 → take 56 bytes ≡ return_unit prefix bit → Begins prefix bytes (ReturnUnit bit)
+unfolding item_bytes
+return_begins prefix bytes bit six small e = (small, ap (λ n. take n bytes) (return_length prefix bit six) ∙ e)
+
+pub begins_call_unit : (prefix bytes : List ℕ) (r : Reg) (bits : ℕ) → length prefix ≡ 6 → Begins prefix bytes (CallUnit r bits) → take 42 bytes ≡ call_unit prefix r bits
+unfolding item_bytes
+begins_call_unit prefix bytes r bits six b = ap (λ n. take n bytes) (sym (call_length prefix r bits six)) ∙ b.1
+
+pub call_unit_begins : (prefix bytes : List ℕ) (r : Reg) (bits : ℕ) → length prefix ≡ 6 → bits < 32 → take 42 bytes ≡ call_unit prefix r bits → Begins prefix bytes (CallUnit r bits)
+unfolding item_bytes
+call_unit_begins prefix bytes r bits six small e = (small, ap (λ n. take n bytes) (call_length prefix r bits six) ∙ e)
+
+pub no_return : (prefix bytes : List ℕ) → length prefix ≡ 6 → ((bit : ℕ) → bit < 2 → take 56 bytes ≡ return_unit prefix bit → ⊥) → NoReturnUnit prefix bytes
+no_return prefix bytes six none bit b = none bit b.0 (begins_return prefix bytes bit six b)
+
+pub no_call : (prefix bytes : List ℕ) → length prefix ≡ 6 → ((r : Reg) (bits : ℕ) → bits < 32 → take 42 bytes ≡ call_unit prefix r bits → ⊥) → NoCallUnit prefix bytes
+no_call prefix bytes six none r bits b = none r bits b.0 (begins_call_unit prefix bytes r bits six b)
+
+-- ---- the exits of `item_at`
+
+-- a return unit stands here
+pub at_return : (prefix code bytes : List ℕ) (place : ℕ) → bytes ≡ drop place code → length prefix ≡ 6 → ((w : Word) → BeginsWord (drop place code) prefix w → ⊥) →
+    (bit : ℕ) × (bit < 2) × (take 56 bytes ≡ return_unit prefix bit) → (item : Item) → StandsAt prefix code place item → ⊥
+at_return prefix code bytes place same six none found =
+    only_plain prefix code place six none (λ i s. s.is.1 found.0 (return_begins prefix (drop place code) found.0 six found.1 (ap (λ l. take 56 l) (sym same) ∙ found.2)))
+
+-- a call unit stands here
+pub at_call : (prefix code bytes : List ℕ) (place : ℕ) → bytes ≡ drop place code → length prefix ≡ 6 → ((w : Word) → BeginsWord (drop place code) prefix w → ⊥) →
+    (r : Reg) × (bits : ℕ) × (bits < 32) × (take 42 bytes ≡ call_unit prefix r bits) → (item : Item) → StandsAt prefix code place item → ⊥
+at_call prefix code bytes place same six none found =
+    only_plain prefix code place six none (λ i s. s.is.2 found.0 found.1 (call_unit_begins prefix (drop place code) found.0 found.1 six found.2 (ap (λ l. take 42 l) (sym same) ∙ found.3)))
+
+abbrev pub with_length : Option Instr → Option (Instr × ℕ)
+with_length o = option_map (λ (i : Instr). let r : Instr × ℕ = (i, length (spelling i)) in r) o
+
+none_of : (o : Option Instr) → (let r : Option (Instr × ℕ) = None in r) ≡ with_length o → o ≡ None
+none_of None e = refl
+none_of (Some i) e = absurd (some_none (i, length (spelling i)) (sym e))
+
+some_of : (o : Option Instr) (i : Instr) (n : ℕ) → (let r : Option (Instr × ℕ) = Some (i, n) in r) ≡ with_length o → o ≡ Some i
+some_of None i n e = absurd (some_none (i, n) e)
+some_of (Some j) i n e =
+    let pair : (let r : Instr × ℕ = (i, n) in r) ≡ (j, length (spelling j)) = cc in
+    ap (λ (x : Instr). let o : Option Instr = Some x in o) (sym (ap (λ (q : Instr × ℕ). q.0) pair))
+
+length_of : (o : Option Instr) (i : Instr) (n : ℕ) → (let r : Option (Instr × ℕ) = Some (i, n) in r) ≡ with_length o → n ≡ length (spelling i)
+length_of None i n e = absurd (some_none (i, n) e)
+length_of (Some j) i n e =
+    let pair : (let r : Instr × ℕ = (i, n) in r) ≡ (j, length (spelling j)) = cc in
+    ap (λ (q : Instr × ℕ). q.1) pair ∙ ap (λ x. length (spelling x)) (sym (ap (λ (q : Instr × ℕ). q.0) pair))
+
+-- nothing decodes here
+pub at_nothing : (prefix code : List ℕ) (place : ℕ) → length prefix ≡ 6 → ((w : Word) → BeginsWord (drop place code) prefix w → ⊥) →
+    (let r : Option (Instr × ℕ) = None in r) ≡ with_length (instruction_at (drop place code)) → (item : Item) → StandsAt prefix code place item → ⊥
+at_nothing prefix code place six none e =
+    only_plain prefix code place six none (λ i s. some_none i (sym s.is.3 ∙ none_of (instruction_at (drop place code)) e))
+
+-- an instruction that may not stand alone decodes here
+same_some : (i j : Instr) → (let o : Option Instr = Some i in o) ≡ Some j → i ≡ j
+same_some i j e = cc
+
+pub at_other : (prefix code : List ℕ) (place : ℕ) (i : Instr) (n : ℕ) → length prefix ≡ 6 → ((w : Word) → BeginsWord (drop place code) prefix w → ⊥) →
+    (let r : Option (Instr × ℕ) = Some (i, n) in r) ≡ with_length (instruction_at (drop place code)) → (StandsAlone i → ⊥) → (item : Item) → StandsAt prefix code place item → ⊥
+at_other prefix code place i n six none e alone =
+    only_plain prefix code place six none (λ j s.
+    alone (subst (λ x. StandsAlone x) (same_some j i (sym s.is.3 ∙ some_of (instruction_at (drop place code)) i n e)) s.admitted))
+
+-- an instruction stands here
+pub at_plain : (prefix code bytes : List ℕ) (place : ℕ) (i : Instr) (n : ℕ) → bytes ≡ drop place code → length prefix ≡ 6 → place < length code → ((w : Word) → BeginsWord (drop place code) prefix w → ⊥) →
+    ((bit : ℕ) → bit < 2 → take 56 bytes ≡ return_unit prefix bit → ⊥) →
+    ((r : Reg) (bits : ℕ) → bits < 32 → take 42 bytes ≡ call_unit prefix r bits → ⊥) →
+    (let r : Option (Instr × ℕ) = Some (i, n) in r) ≡ with_length (instruction_at (drop place code)) → StandsAlone i → StandsAt prefix code place (Plain i)
+at_plain prefix code bytes place i n same six inside none no_ret no_cal e alone = record {
+  inside = inside;
+  is = (no_word prefix (drop place code) six none, no_return prefix (drop place code) six (λ bit h g. no_ret bit h (ap (λ l. take 56 l) same ∙ g)), no_call prefix (drop place code) six (λ r bits h g. no_cal r bits h (ap (λ l. take 42 l) same ∙ g)), some_of (instruction_at (drop place code)) i n e);
+  admitted = alone;
+}
+
+pub plain_length : (prefix code : List ℕ) (place : ℕ) (i : Instr) (n : ℕ) → (let r : Option (Instr × ℕ) = Some (i, n) in r) ≡ with_length (instruction_at (drop place code)) → n ≡ length (item_bytes prefix (Plain i))
+unfolding item_bytes
+plain_length prefix code place i n e = length_of (instruction_at (drop place code)) i n e
+
+-- ---- the exit at a word, clause by clause
+
+stands_found : (prefix code : List ℕ) (place : ℕ) (r : Option (Item × ℕ)) → Stands prefix code place r → IfSome r (λ x. StandsAt prefix code place x.0)
+stands_found prefix code place None s = tt
+stands_found prefix code place (Some x) s = s.0
+
+stands_len : (prefix code : List ℕ) (place : ℕ) (r : Option (Item × ℕ)) → Stands prefix code place r → IfSome r (λ x. x.1 ≡ length (item_bytes prefix x.0))
+stands_len prefix code place None s = tt
+stands_len prefix code place (Some x) s = s.1
+
+pub word_found : (prefix code : List ℕ) (place : ℕ) (w : Word) (r : Option (Item × ℕ)) → length prefix ≡ 6 → place < length code → BeginsWord (drop place code) prefix w →
+    ((bits : ℕ) → w ≡ word.Call bits → place ≡ 0 → r ≡ Some (Call bits, 8)) → (((bits : ℕ) → w ≡ word.Call bits → place ≡ 0 → ⊥) → r ≡ None) →
+    IfSome r (λ x. StandsAt prefix code place x.0)
+word_found prefix code place w r six inside b call other = stands_found prefix code place r (word_stands prefix code place w r six inside b (record { call = call; other = other }))
+
+pub word_len : (prefix code : List ℕ) (place : ℕ) (w : Word) (r : Option (Item × ℕ)) → length prefix ≡ 6 → place < length code → BeginsWord (drop place code) prefix w →
+    ((bits : ℕ) → w ≡ word.Call bits → place ≡ 0 → r ≡ Some (Call bits, 8)) → (((bits : ℕ) → w ≡ word.Call bits → place ≡ 0 → ⊥) → r ≡ None) →
+    IfSome r (λ x. x.1 ≡ length (item_bytes prefix x.0))
+word_len prefix code place w r six inside b call other = stands_len prefix code place r (word_stands prefix code place w r six inside b (record { call = call; other = other }))
+
+nothing_from : (prefix code : List ℕ) (place : ℕ) (w : Word) (r : Option (Item × ℕ)) → length prefix ≡ 6 → BeginsWord (drop place code) prefix w → WordItem w place r →
+    IfNone r ((item : Item) → StandsAt prefix code place item → ⊥)
+nothing_from prefix code place w None six b is = word_none prefix code place w None six b is refl
+nothing_from prefix code place w (Some x) six b is = tt
+
+pub word_nothing : (prefix code : List ℕ) (place : ℕ) (w : Word) (r : Option (Item × ℕ)) → length prefix ≡ 6 → BeginsWord (drop place code) prefix w →
+    ((bits : ℕ) → w ≡ word.Call bits → place ≡ 0 → r ≡ Some (Call bits, 8)) → (((bits : ℕ) → w ≡ word.Call bits → place ≡ 0 → ⊥) → r ≡ None) →
+    IfNone r ((item : Item) → StandsAt prefix code place item → ⊥)
+word_nothing prefix code place w r six b call other = nothing_from prefix code place w r six b (record { call = call; other = other })
+
+word_fits : (prefix code : List ℕ) (place : ℕ) (w : Word) → length prefix ≡ 6 → place < length code → BeginsWord (drop place code) prefix w → place + 8 ≤ length code
+word_fits prefix code place (word.Call bits) six inside b =
+    let e : length (take 8 (drop place code)) ≡ suc (suc (length prefix)) = ap length b.stands in
+    omega (arith, six, e, length-take 8 (drop place code), length-drop place code)
+word_fits prefix code place (word.Ret bit) six inside b =
+    let e : length (take 8 (drop place code)) ≡ suc (suc (length prefix)) = ap length b.stands in
+    omega (arith, six, e, length-take 8 (drop place code), length-drop place code)
+
+inside_from : (prefix code : List ℕ) (place : ℕ) (r : Option (Item × ℕ)) → length prefix ≡ 6 → place + 8 ≤ length code → (r ≡ None) ⊎ ((bits : ℕ) × (r ≡ Some (Call bits, 8))) →
+    IfSome r (λ x. (0 < x.1) × (place + x.1 ≤ length code))
+inside_from prefix code place r six fits (inl e) = subst (λ (x : Option (Item × ℕ)). IfSome x (λ y. (0 < y.1) × (place + y.1 ≤ length code))) (sym e) tt
+inside_from prefix code place r six fits (inr e) = subst (λ (x : Option (Item × ℕ)). IfSome x (λ y. (0 < y.1) × (place + y.1 ≤ length code))) (sym e.1) (omega arith, fits)
+
+either_way : (w : Word) (place : ℕ) (r : Option (Item × ℕ)) → ((bits : ℕ) → w ≡ word.Call bits → place ≡ 0 → r ≡ Some (Call bits, 8)) → (((bits : ℕ) → w ≡ word.Call bits → place ≡ 0 → ⊥) → r ≡ None) →
+    (r ≡ None) ⊎ ((bits : ℕ) × (r ≡ Some (Call bits, 8)))
+either_way (word.Call bits) place r call other = elim (cases_eq place 0) [ inl zero ↦ inr (bits, call bits refl zero) | inr later ↦ inl (other (λ n e z. later z)) ]
+either_way (word.Ret bit) place r call other = inl (other (λ n e z. not_call bit n e))
+
+pub word_inside : (prefix code : List ℕ) (place : ℕ) (w : Word) (r : Option (Item × ℕ)) → length prefix ≡ 6 → place < length code → BeginsWord (drop place code) prefix w →
+    ((bits : ℕ) → w ≡ word.Call bits → place ≡ 0 → r ≡ Some (Call bits, 8)) → (((bits : ℕ) → w ≡ word.Call bits → place ≡ 0 → ⊥) → r ≡ None) →
+    IfSome r (λ x. (0 < x.1) × (place + x.1 ≤ length code))
+word_inside prefix code place w r six inside b call other = inside_from prefix code place r six (word_fits prefix code place w six inside b) (either_way w place r call other)
+
+-- ---- chains
+
+-- a chain with one more item
+pub chain_more : (prefix code : List ℕ) (items : List Placed) (from at : ℕ) (p : Placed) → IsChain prefix code items from at → p.at ≡ at → p.len ≡ length (item_bytes prefix p.item) → StandsAt prefix code at p.item →
+    IsChain prefix code (items ++ p ∷ []) from (at + p.len)
+chain_more prefix code [] from at p chain here long stands =
+    (here ∙ sym chain, long, subst (λ n. StandsAt prefix code n p.item) (sym chain) stands, ap (λ n. n + p.len) chain)
+chain_more prefix code (q ∷ qs) from at p chain here long stands =
+    (chain.0, chain.1, chain.2, chain_more prefix code qs (from + q.len) at p chain.3 here long stands)
