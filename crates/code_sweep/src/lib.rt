@@ -13,3 +13,6 @@ mod unit;
 pub use item::{Item, Listing, Placed};
 pub use place::item_at;
 pub use sweeping::{SweepError, sweep};
+
+#[cfg(test)]
+mod tests;

@@ -10,3 +10,6 @@ mod word;
 
 pub use occurrence::occurrences;
 pub use word::{Word, call_word, read_word, return_word};
+
+#[cfg(test)]
+mod tests;

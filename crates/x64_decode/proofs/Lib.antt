@@ -2,4 +2,4 @@ mod Numbers
 pub mod Tables
 mod Spelled
 mod Taken
-mod Laws
+pub mod Laws

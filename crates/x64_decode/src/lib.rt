@@ -12,3 +12,6 @@ mod law;
 pub use decoding::decode;
 pub use instr::{AluOp, Cond, Instr, Mem, Reg, Seg, ShiftOp, Width};
 pub use law::table_law;
+
+#[cfg(test)]
+mod tests;
