@@ -472,3 +472,20 @@ fn an_instruction(rt: HostRuntime) -> Result<(), Fail> {
     assert_eq!(rt; regs.pc, 0x1_0007);
     Ok(())
 }
+
+#[test]
+fn a_move_of_32_bits_clears_the_upper_half(rt: HostRuntime) -> Result<(), Fail> {
+    let mut segs = Segments::new(rt.alloc(), 65536, b"", b"", b"")?;
+    let mut regs = core(9);
+    regs.r[1] = 0x1122_3344_5566_7788;
+    regs.r[15] = LAST;
+    let i = Instr::Mov {
+        wide: false,
+        dst: Reg::Gpr15,
+        src: Reg::Rcx,
+    };
+    assert_eq!(rt; execute(i, 0x1_0003, &mut regs, &mut segs), None);
+    assert_eq!(rt; regs.r[15], 0x5566_7788);
+    assert_eq!(rt; regs.pc, 0x1_0003);
+    Ok(())
+}
