@@ -1,0 +1,101 @@
+-- A chain of items stands in order.
+use Rattle.std.proofs.Common.{◌≡◌, ℕ, zero, suc, ◌+◌, ◌<◌, ◌≤◌, List, [], ◌∷◌, length, ap, arith, Some}
+use Rattle.std.specs.List.{slice_get}
+use Rattle.std.proofs.lemmas.Option.{same_Some, none-some}
+use Rattle.x64_decode.specs.Spelling.{spelling}
+use Rattle.x64_decode.specs.declared.instr.Instr.{Instr}
+use Rattle.x64_decode.specs.declared.instr.Instr.TheVariants as instr
+use Rattle.x64_decode.specs.declared.instr.Instr.TheVariants.{Alu, AluImm, CallR10, Cmov, CmpFlat, Cqo, Idiv, Imul, Jcc, Jmp, JmpR10, Load, LoadSx32, LoadSx8, LoadZx8, Mov, MovImm32, MovImm64, MovImmS, Movsx8, Movsxd, Movzx8, Neg, Nop, Not, Setcc, ShiftCl, ShiftImm, Store, Test, Ud2}
+use Rattle.code_sweep.specs.declared.item.Item.{Item}
+use Rattle.code_sweep.specs.declared.item.Item.TheVariants.{Plain}
+use Rattle.code_sweep.specs.declared.item.Placed.{Placed}
+use Rattle.code_sweep.specs.Listing.{IsChain, IsListing, item_bytes}
+use Rattle.taint_flow.specs.Places.{StandInOrder}
+
+-- the items stand at places from one on, below another, each above the one before it
+abbrev pub RiseFrom : ℕ → List Placed → ℕ → Type 0
+RiseFrom low [] high = Unit {0}
+RiseFrom low (p ∷ ps) high = (low ≤ p.at) × (p.at < high) × RiseFrom (suc p.at) ps high
+
+above : (low : ℕ) (items : List Placed) (high i : ℕ) (p : Placed) → RiseFrom low items high → slice_get items i ≡ Some p → low ≤ p.at
+above low [] high i p r e = absurd (none-some p e)
+above low (q ∷ qs) high zero p r e =
+    let same : q.at ≡ p.at = ap (λ (x : Placed). x.at) (same_Some q p e) in let low' : low ≤ q.at = r.0 in omega arith
+above low (q ∷ qs) high (suc i) p r e =
+    let up : suc q.at ≤ p.at = above (suc q.at) qs high i p r.2 e in let low' : low ≤ q.at = r.0 in omega arith
+
+below : (low : ℕ) (items : List Placed) (high i : ℕ) (p : Placed) → RiseFrom low items high → slice_get items i ≡ Some p → p.at < high
+below low [] high i p r e = absurd (none-some p e)
+below low (q ∷ qs) high zero p r e =
+    let same : q.at ≡ p.at = ap (λ (x : Placed). x.at) (same_Some q p e) in let high' : q.at < high = r.1 in omega arith
+below low (q ∷ qs) high (suc i) p r e = below (suc q.at) qs high i p r.2 e
+
+apart : (low : ℕ) (items : List Placed) (high i j : ℕ) (p q : Placed) → RiseFrom low items high →
+    slice_get items i ≡ Some p → slice_get items j ≡ Some q → i < j → p.at < q.at
+apart low [] high i j p q r e f h = absurd (none-some p e)
+apart low (x ∷ xs) high zero zero p q r e f h = absurd (omega arith)
+apart low (x ∷ xs) high zero (suc j) p q r e f h =
+    let same : x.at ≡ p.at = ap (λ (y : Placed). y.at) (same_Some x p e) in
+    let up : suc x.at ≤ q.at = above (suc x.at) xs high j q r.2 f in
+    omega arith
+apart low (x ∷ xs) high (suc i) zero p q r e f h = absurd (omega arith)
+apart low (x ∷ xs) high (suc i) (suc j) p q r e f h = apart (suc x.at) xs high i j p q r.2 e f (omega arith)
+
+pub order_from_rise : (items : List Placed) (code : List ℕ) → RiseFrom 0 items (length code) → StandInOrder items code
+order_from_rise items code r = record {
+  inside = λ i p e. below 0 items (length code) i p r e;
+  rising = λ i j p q e f h. apart 0 items (length code) i j p q r e f h;
+}
+
+spelled_some : (i : Instr) → 0 < length (spelling i)
+unfolding spelling
+spelled_some (Mov wide dst src) = omega arith
+spelled_some (Alu op dst src) = omega arith
+spelled_some (Test a b) = omega arith
+spelled_some (Imul dst src) = omega arith
+spelled_some (Not r) = omega arith
+spelled_some (Neg r) = omega arith
+spelled_some (Idiv r) = omega arith
+spelled_some Cqo = omega arith
+spelled_some (ShiftImm op r count) = omega arith
+spelled_some (ShiftCl op r) = omega arith
+spelled_some (Movsxd dst src) = omega arith
+spelled_some (Movzx8 dst src) = omega arith
+spelled_some (Movsx8 dst src) = omega arith
+spelled_some (Setcc k r) = omega arith
+spelled_some (Cmov k dst src) = omega arith
+spelled_some (MovImm32 dst imm) = omega arith
+spelled_some (MovImm64 dst imm) = omega arith
+spelled_some (MovImmS dst imm) = omega arith
+spelled_some (AluImm op dst imm) = omega arith
+spelled_some (Load wide dst mem) = omega arith
+spelled_some (LoadZx8 dst mem) = omega arith
+spelled_some (LoadSx8 dst mem) = omega arith
+spelled_some (LoadSx32 dst mem) = omega arith
+spelled_some (Store width mem src) = omega arith
+spelled_some CmpFlat = omega arith
+spelled_some JmpR10 = omega arith
+spelled_some CallR10 = omega arith
+spelled_some (instr.Call rel) = omega arith
+spelled_some (Jmp rel) = omega arith
+spelled_some (Jcc k rel) = omega arith
+spelled_some Ud2 = omega arith
+spelled_some Nop = omega arith
+
+bytes_some : (prefix : List ℕ) (item : Item) → 0 < length (item_bytes prefix item)
+unfolding item_bytes spelling
+bytes_some prefix (Plain i) = spelled_some i
+bytes_some prefix _ = omega arith
+
+rise_from_chain : (prefix code : List ℕ) (items : List Placed) (low from to : ℕ) → low ≤ from → IsChain prefix code items from to → RiseFrom low items (length code)
+rise_from_chain prefix code [] low from to h c = tt
+rise_from_chain prefix code (p ∷ ps) low from to h c =
+    let at : p.at ≡ from = c.0 in
+    let inside : from < length code = c.2.inside in
+    let long : 0 < length (item_bytes prefix p.item) = bytes_some prefix p.item in
+    let len : p.len ≡ length (item_bytes prefix p.item) = c.1 in
+    (omega arith, omega arith, rise_from_chain prefix code ps (suc p.at) (from + p.len) to (omega arith) c.3)
+
+-- the items of a listing stand in order
+pub order_from_listing : (prefix code : List ℕ) (items : List Placed) → IsListing prefix code items → StandInOrder items code
+order_from_listing prefix code items c = order_from_rise items code (rise_from_chain prefix code items 0 0 (length code) (omega arith) c)

@@ -1,0 +1,6 @@
+pub mod Bits
+pub mod Joins
+pub mod Tables
+pub mod Monotone
+pub mod Sound
+pub mod Chain

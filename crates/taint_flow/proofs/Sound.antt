@@ -1,0 +1,344 @@
+-- The search for the least labelling: how it starts, what one item hands on, and what is kept.
+use Rattle.std.proofs.Common.{subst, ◌≡◌, ℕ, suc, ◌+◌, ◌-◌, ◌<◌, ◌≤◌, Bool, true, false, cond, eqb, List, [], ◌∷◌, ◌++◌, length, set, get_or, replicate, refl, sym, ◌∙◌, ap, arith, Option, Some, None, inl, inr, ◌⊎◌}
+use Rattle.std.specs.Prelude.{All, Contains}
+use Rattle.std.specs.List.{slice_get}
+use Rattle.std.proofs.lemmas.Option.{same_Some, none-some, slice_get_within, cond_some}
+use Rattle.std.proofs.lemmas.Bool.{cases_eq, cases_lt, true≢false, cond-true, false_from_ne_true}
+use Rattle.std.proofs.lemmas.List.{get_or-set_same, get_or-set_other, get_or-replicate, get_or_past, length-replicate, length-set, length_push, get_or_push, get_or_append_left}
+use Rattle.std.proofs.lemmas.List.Elements.{All-push, Contains-push, Contains-append_left, Contains-push_cases}
+use Rattle.cv_word.specs.MemoryMap.{code_base}
+use Rattle.code_sweep.specs.declared.item.Item.{Item}
+use Rattle.code_sweep.specs.declared.item.Item.TheVariants.{Call}
+use Rattle.code_sweep.specs.declared.item.Placed.{Placed}
+use Rattle.taint_flow.specs.Label.{Label, IsAtMost, entry_label}
+use Rattle.taint_flow.specs.Flow.{Labelling, MeetsFlow, Leads, left_behind, falls_through, jump_target, address}
+use Rattle.taint_flow.specs.Bits.{label_of, labelling_of, public_bits}
+use Rattle.taint_flow.specs.declared.label.Label.{Label as LabelBits}
+use Rattle.taint_flow.specs.Places.{NextStands, NumbersItems, goes_on}
+use Rattle.taint_flow.specs.Worklist.{State, label_at, is_queued, IsWhole, IsBelow, Rises, TakesIn, StaysBelow, work_left, HandsOn, HasEntries, StaysLeast, IsFresh, IsSound, behind_word, word_label}
+use Rattle.std.proofs.lemmas.Nat.Bits.{bit_at-zero}
+use Rattle.taint_flow.proofs.Joins.{read_label}
+use Rattle.taint_flow.proofs.Monotone.{left_behind_up}
+
+along : (l m n : Label) → l ≡ m → IsAtMost m n → IsAtMost l n
+along l m n e h = subst (λ (x : Label). IsAtMost x n) (sym e) h
+
+onto : (l m n : Label) → n ≡ m → IsAtMost l m → IsAtMost l n
+onto l m n e h = subst (λ (x : Label). IsAtMost l x) (sym e) h
+
+pub rises_then : (s m t : State) → Rises s m → Rises m t → Rises s t
+rises_then s m t a b = record {
+  labels = b.labels ∙ a.labels;
+  whole = λ count w. b.whole count (a.whole count w);
+  higher = λ i k h. b.higher i k (a.higher i k h);
+  told = λ i q. ((a.told i (b.told i q).0).0, (b.told i q).1 ∙ (a.told i (b.told i q).0).1);
+  work = (let x = a.work in let y = b.work in omega arith);
+}
+
+-- one item of a listing, what it leaves, and the two items that it may lead to
+pub record Hands (items : List Placed) (i : ℕ) (p : Placed) (out : Label) (s : State) (next target : Option ℕ) (number : ℕ → Option ℕ) : Type 0 where
+  pub here : slice_get items i ≡ Some p
+  pub out_is : out ≡ left_behind p.item (label_at s i)
+  pub next_is : next ≡ cond (falls_through p.item) (Some (i + 1)) None
+  pub found : (place : ℕ) → jump_target p ≡ Some (code_base + place) → target ≡ number place
+  pub only : (j : ℕ) → target ≡ Some j → (place : ℕ) × (jump_target p ≡ Some (code_base + place)) × (number place ≡ Some j)
+  pub numbers : NumbersItems items number
+
+next_leads : (items : List Placed) (i : ℕ) (p : Placed) (out : Label) (s : State) (next target : Option ℕ) (number : ℕ → Option ℕ) →
+    Hands items i p out s next target number → (j : ℕ) → next ≡ Some j → (falls_through p.item ≡ true) × (j ≡ suc i)
+next_leads items i p out s next target number h j e =
+    let parts : (falls_through p.item ≡ true) × (i + 1 ≡ j) = cond_some (falls_through p.item) (i + 1) j (sym h.next_is ∙ e) in
+    let same : i + 1 ≡ j = parts.1 in
+    (parts.0, omega arith)
+
+target_leads : (items : List Placed) (i : ℕ) (p : Placed) (out : Label) (s : State) (next target : Option ℕ) (number : ℕ → Option ℕ) →
+    Hands items i p out s next target number → (j : ℕ) → target ≡ Some j →
+    (q : Placed) × (slice_get items j ≡ Some q) × (jump_target p ≡ Some (address q))
+target_leads items i p out s next target number h j e =
+    let at = h.only j e in
+    let item = h.numbers.only at.0 j at.2 in
+    (item.0, item.1, at.1 ∙ ap (λ (n : ℕ). Some (code_base + n)) (sym item.2))
+
+goes : (item : Item) → falls_through item ≡ true → goes_on item ≡ true
+goes (Call bits) h = refl
+goes _ h = h
+
+pub next_inside : (items : List Placed) (i : ℕ) (p : Placed) → slice_get items i ≡ Some p → NextStands items → (j : ℕ) →
+    cond (falls_through p.item) (Some (i + 1)) None ≡ Some j → j < length items
+next_inside items i p here n j e =
+    let parts : (falls_through p.item ≡ true) × (i + 1 ≡ j) = cond_some (falls_through p.item) (i + 1) j e in
+    let same : i + 1 ≡ j = parts.1 in
+    let within : suc i < length items = n i p here (goes p.item parts.0) in
+    omega arith
+
+pub target_inside : (items : List Placed) (number : ℕ → Option ℕ) (place j : ℕ) → NumbersItems items number → number place ≡ Some j → j < length items
+target_inside items number place j n e = let item = n.only place j e in slice_get_within items j item.0 item.1
+
+hands_at : (items : List Placed) (i : ℕ) (p : Placed) (out : Label) (s m t : State) (next target : Option ℕ) (number : ℕ → Option ℕ) →
+    Hands items i p out s next target number → TakesIn next out m → Rises m t → TakesIn target out t → (j : ℕ) →
+    (((falls_through p.item ≡ true) × (j ≡ suc i)) ⊎ ((q : Placed) × (slice_get items j ≡ Some q) × (jump_target p ≡ Some (address q)))) →
+    IsAtMost out (label_at t j)
+hands_at items i p out s m t next target number h a r b j (inl x) =
+    let named : next ≡ Some j =
+    h.next_is ∙ (cond-true (falls_through p.item) (Some (i + 1)) None x.0 ∙ ap (λ (n : ℕ). Some n) (let e : j ≡ suc i = x.1 in omega arith)) in
+    λ k one. r.higher j k (a j named k one)
+hands_at items i p out s m t next target number h a r b j (inr x) =
+    let named : target ≡ Some j = h.found x.0.at x.2 ∙ h.numbers.each j x.0 x.1 in
+    b j named
+
+pub handed : (items : List Placed) (i : ℕ) (p : Placed) (out : Label) (s m t : State) (next target : Option ℕ) (number : ℕ → Option ℕ) →
+    Hands items i p out s next target number → TakesIn next out m → Rises m t → TakesIn target out t → HandsOn items i s t
+handed items i p out s m t next target number h a r b j p' there lead =
+    let same : p ≡ p' = same_Some p p' (sym h.here ∙ there) in
+    let same_lead : p ≡ lead.0 = same_Some p lead.0 (sym h.here ∙ lead.1) in
+    subst (λ (x : Placed). IsAtMost (left_behind x.item (label_at s i)) (label_at t j)) same
+    (subst (λ (l : Label). IsAtMost l (label_at t j)) h.out_is
+    (hands_at items i p out s m t next target number h a r b j
+    (subst (λ (x : Placed). (((falls_through x.item ≡ true) × (j ≡ suc i)) ⊎ ((q : Placed) × (slice_get items j ≡ Some q) × (jump_target x ≡ Some (address q))))) (sym same_lead) lead.2)))
+
+out_below : (items : List Placed) (i : ℕ) (p : Placed) (out : Label) (s : State) (next target : Option ℕ) (number : ℕ → Option ℕ) →
+    Hands items i p out s next target number → (any : Labelling) → MeetsFlow items any → IsBelow s any → (j : ℕ) → Leads items i j → IsAtMost out (any j)
+out_below items i p out s next target number h any meets below j lead =
+    along _ _ _ h.out_is
+    (λ k one. meets.leads i j p h.here lead k (left_behind_up p.item (label_at s i) (any i) (below i) k one))
+
+pub handed_least : (items : List Placed) (i : ℕ) (p : Placed) (out : Label) (s m t : State) (next target : Option ℕ) (number : ℕ → Option ℕ) →
+    Hands items i p out s next target number → StaysBelow next out s m → StaysBelow target out m t → StaysLeast items s t
+handed_least items i p out s m t next target number h a b any meets below =
+    b any
+    (λ j e. out_below items i p out s next target number h any meets below j (p, h.here, inr (target_leads items i p out s next target number h j e)))
+    (a any
+    (λ j e. out_below items i p out s next target number h any meets below j (p, h.here, inl (next_leads items i p out s next target number h j e)))
+    below)
+
+-- the top of the stack taken off, and its flag cleared
+abbrev pub popped : State → ℕ → List ℕ → State
+popped s i rest = record { labels = s.labels; queued = set s.queued i false; stack = rest }
+
+pub top_inside : (count : ℕ) (s : State) (i : ℕ) (rest : List ℕ) → IsWhole count s → s.stack ≡ rest ++ i ∷ [] → i < count
+top_inside count s i rest w e =
+    let long : length s.stack ≡ length rest + 1 = ap length e ∙ length_push rest i in
+    let top : get_or s.stack (length rest) 0 ≡ i =
+    ap (λ (xs : List ℕ). get_or xs (length rest) 0) e ∙ get_or_push rest i 0 (length rest) refl in
+    let small : get_or s.stack (length rest) 0 < count = w.inside (length rest) 0 (omega arith) in
+    omega arith
+
+rest_inside : (count : ℕ) (s : State) (i : ℕ) (rest : List ℕ) → IsWhole count s → s.stack ≡ rest ++ i ∷ [] → (k d : ℕ) → k < length rest → get_or rest k d < count
+rest_inside count s i rest w e k d h =
+    let long : length s.stack ≡ length rest + 1 = ap length e ∙ length_push rest i in
+    let at : get_or s.stack k d ≡ get_or rest k d =
+    ap (λ (xs : List ℕ). get_or xs k d) e ∙ get_or_append_left rest (i ∷ []) d k h in
+    let small : get_or s.stack k d < count = w.inside k d (omega arith) in
+    omega arith
+
+cleared : (queued : List Bool) (i k : ℕ) → get_or (set queued i false) k false ≡ true → (k ≡ i) ⊎ (k ≡ i → ⊥) → i < length queued → (get_or queued k false ≡ true) × (k ≡ i → ⊥)
+cleared queued i k h (inl e) small =
+    absurd (true≢false (sym h ∙ (ap (λ (n : ℕ). get_or (set queued i false) n false) e ∙ get_or-set_same queued i false false small)))
+cleared queued i k h (inr n) small = (sym (get_or-set_other queued i k false false n) ∙ h, n)
+
+left_in : (rest : List ℕ) (i k : ℕ) → (k ≡ i → ⊥) → Contains rest k ⊎ (i ≡ k) → Contains rest k
+left_in rest i k n (inl c) = c
+left_in rest i k n (inr e) = absurd (n (sym e))
+
+pub whole_popped : (count : ℕ) (s : State) (i : ℕ) (rest : List ℕ) → IsWhole count s → s.stack ≡ rest ++ i ∷ [] → IsWhole count (popped s i rest)
+whole_popped count s i rest w e = record {
+  labels = w.labels;
+  queued = length-set s.queued i false ∙ w.queued;
+  inside = rest_inside count s i rest w e;
+  stacked = λ k q.
+      let small : i < length s.queued = let top = top_inside count s i rest w e in let len = w.queued in omega arith in
+      let was = cleared s.queued i k q (cases_eq k i) small in
+      left_in rest i k was.1
+      (Contains-push_cases rest i k (subst (λ (xs : List ℕ). Contains xs k) e (w.stacked k was.0)));
+}
+
+kept_flag : (queued : List Bool) (i k : ℕ) → (k ≡ i → ⊥) → get_or (set queued i false) k false ≡ false → get_or queued k false ≡ false
+kept_flag queued i k n h = sym (get_or-set_other queued i k false false n) ∙ h
+
+done_at : (items : List Placed) (s t : State) (i k : ℕ) (rest : List ℕ) → IsSound items s → Rises (popped s i rest) t →
+    HandsOn items i (popped s i rest) t → is_queued t k ≡ false → (k ≡ i) ⊎ (k ≡ i → ⊥) → HandsOn items k t t
+done_at items s t i k rest sound r h q (inl e) j p here lead =
+    along _ _ _ (ap (λ (l : Label). left_behind p.item l) ((r.told k q).1 ∙ ap (λ (n : ℕ). label_at s n) e))
+    (h j p (ap (λ (n : ℕ). slice_get items n) (sym e) ∙ here) (subst (λ (n : ℕ). Leads items n j) e lead))
+done_at items s t i k rest sound r h q (inr n) j p here lead =
+    along _ _ _ (ap (λ (l : Label). left_behind p.item l) (r.told k q).1)
+    (λ name one. r.higher j name (sound.done k (kept_flag s.queued i k n (r.told k q).0) j p here lead name one))
+
+pub sound_after : (items : List Placed) (s t : State) (i : ℕ) (rest : List ℕ) → IsSound items s → s.stack ≡ rest ++ i ∷ [] →
+    Rises (popped s i rest) t → HandsOn items i (popped s i rest) t → StaysLeast items (popped s i rest) t → IsSound items t
+sound_after items s t i rest sound e r h least = record {
+  whole = r.whole (length items) (whole_popped (length items) s i rest sound.whole e);
+  entries = λ k p bits small here is name one. r.higher (suc k) name (sound.entries k p bits small here is name one);
+  done = λ k q. done_at items s t i k rest sound r h q (cases_eq k i);
+  below = λ any meets. least any meets (sound.below any meets);
+}
+
+pub work_after : (s t : State) (i : ℕ) (rest : List ℕ) → s.stack ≡ rest ++ i ∷ [] → Rises (popped s i rest) t → work_left t < work_left s
+work_after s t i rest e r =
+    let long : length s.stack ≡ length rest + 1 = ap length e ∙ length_push rest i in
+    let work : work_left t ≤ work_left (popped s i rest) = r.work in
+    omega arith
+
+-- the start
+labels_public : (n i k : ℕ) → (i < n) ⊎ (n ≤ i) → labelling_of (replicate n public_bits) i k ≡ false
+labels_public n i k (inl h) =
+    ap (λ (l : LabelBits). label_of l.bits k) (get_or-replicate n i public_bits public_bits h) ∙ ap (λ (b : ℕ). eqb b 1) (bit_at-zero k)
+labels_public n i k (inr h) =
+    ap (λ (l : LabelBits). label_of l.bits k)
+    (get_or_past (replicate n public_bits) i public_bits (let e : length (replicate n public_bits) ≡ n = length-replicate n public_bits in omega arith))
+    ∙ ap (λ (b : ℕ). eqb b 1) (bit_at-zero k)
+
+-- the stack has the highest numbers, so many of them
+pub record Highest (count i : ℕ) (stack : List ℕ) : Type 0 where
+  pub inside : All (λ k. k < count) stack
+  pub stacked : (k : ℕ) → count ≤ k + i → k < count → Contains stack k
+
+stacked_more : (count i k : ℕ) (stack : List ℕ) → i < count → Highest count i stack → count ≤ k + (i + 1) → k < count →
+    (k ≡ count - 1 - i) ⊎ (k ≡ count - 1 - i → ⊥) → Contains (stack ++ (count - 1 - i) ∷ []) k
+stacked_more count i k stack h s a b (inl e) = subst (λ (n : ℕ). Contains (stack ++ (count - 1 - i) ∷ []) n) (sym e) (Contains-push stack (count - 1 - i))
+stacked_more count i k stack h s a b (inr n) = Contains-append_left stack ((count - 1 - i) ∷ []) k (s.stacked k (omega arith) b)
+
+pub highest_more : (count i : ℕ) (stack : List ℕ) → i < count → Highest count i stack → Highest count (i + 1) (stack ++ (count - 1 - i) ∷ [])
+highest_more count i stack h s = record {
+  inside = All-push (λ k. k < count) stack (count - 1 - i) s.inside (omega arith);
+  stacked = λ k a b. stacked_more count i k stack h s a b (cases_eq k (count - 1 - i));
+}
+
+pub highest_none : (count : ℕ) → Highest count 0 []
+highest_none count = record {
+  inside = λ k d h. absurd (omega arith);
+  stacked = λ k a b. absurd (omega arith);
+}
+
+flag_small : (count i : ℕ) → get_or (replicate count true) i false ≡ true → (i < count) ⊎ (count ≤ i) → i < count
+flag_small count i q (inl h) = h
+flag_small count i q (inr h) =
+    absurd (true≢false (sym q ∙ get_or_past (replicate count true) i false (let e : length (replicate count true) ≡ count = length-replicate count true in omega arith)))
+
+fresh_at : (count i : ℕ) (stack : List ℕ) → i ≡ count → Highest count i stack →
+    IsFresh count (record { labels = replicate count public_bits; queued = replicate count true; stack = stack })
+fresh_at count i stack e h = record {
+  whole = record {
+    labels = length-replicate count public_bits;
+    queued = length-replicate count true;
+    inside = h.inside;
+    stacked = λ k q. let small : k < count = flag_small count k q (cases_lt k count) in h.stacked k (omega arith) small;
+  };
+  public = λ n k. labels_public count n k (cases_lt n count);
+  all_queued = λ n small. get_or-replicate count n true false small;
+}
+
+pub fresh_from : (count i : ℕ) (labels : List LabelBits) (queued : List Bool) (stack : List ℕ) → i ≡ count →
+    labels ≡ replicate count public_bits → queued ≡ replicate count true → Highest count i stack →
+    IsFresh count (record { labels = labels; queued = queued; stack = stack })
+fresh_from count i labels queued stack e a b h =
+    subst (λ (ls : List LabelBits). IsFresh count (record { labels = ls; queued = queued; stack = stack })) (sym a)
+    (subst (λ (qs : List Bool). IsFresh count (record { labels = replicate count public_bits; queued = qs; stack = stack })) (sym b)
+    (fresh_at count i stack e h))
+
+-- what the code made of one item
+pub hands_from : (items : List Placed) (i : ℕ) (p : Placed) (x : LabelBits) (out : ℕ) (s : State) (next target : Option ℕ) (number : ℕ → Option ℕ) →
+    slice_get items i ≡ Some p → i < length items → length s.labels ≡ length items → x ≡ get_or s.labels i x →
+    label_of out ≡ left_behind p.item (label_of x.bits) →
+    next ≡ cond (falls_through p.item) (Some (i + 1)) None →
+    ((place : ℕ) → jump_target p ≡ Some (code_base + place) → target ≡ number place) →
+    ((j : ℕ) → target ≡ Some j → (place : ℕ) × (jump_target p ≡ Some (code_base + place)) × (number place ≡ Some j)) →
+    NumbersItems items number → Hands items i p (label_of out) s next target number
+hands_from items i p x out s next target number here small len e leaves n found only numbers = record {
+  here = here;
+  out_is = leaves ∙ ap (λ (l : Label). left_behind p.item l) (read_label s.labels i x (omega arith) e);
+  next_is = n;
+  found = found;
+  only = only;
+  numbers = numbers;
+}
+
+-- behind the call words
+behind_inside_at : (item : Item) (i n j : ℕ) → (goes_on item ≡ true → suc i < n) → behind_word item i ≡ Some j → j < n
+behind_inside_at (Call bits) i n j h e =
+    let same : i + 1 ≡ j = same_Some (i + 1) j e in
+    let small : suc i < n = h refl in
+    omega arith
+behind_inside_at _ i n j h e = absurd (none-some j e)
+
+pub behind_inside : (items : List Placed) (i : ℕ) (p : Placed) → slice_get items i ≡ Some p → NextStands items → (j : ℕ) →
+    behind_word p.item i ≡ Some j → j < length items
+behind_inside items i p here n j e = behind_inside_at p.item i (length items) j (n i p here) e
+
+entry_at : (items : List Placed) (i k : ℕ) (p q : Placed) (bits : ℕ) (m t : State) → HasEntries items i m → Rises m t →
+    TakesIn (behind_word p.item i) (word_label p.item) t → slice_get items i ≡ Some p → k < i + 1 → slice_get items k ≡ Some q →
+    q.item ≡ Call bits → (k ≡ i) ⊎ (k ≡ i → ⊥) → IsAtMost (entry_label bits) (label_at t (suc k))
+entry_at items i k p q bits m t before r takes here small there is (inl e) =
+    let same : p ≡ q = same_Some p q (sym here ∙ (ap (λ (n : ℕ). slice_get items n) (sym e) ∙ there)) in
+    let item : p.item ≡ Call bits = ap (λ (x : Placed). x.item) same ∙ is in
+    let takes_it : TakesIn (behind_word (Call bits) i) (word_label (Call bits)) t =
+    subst (λ (x : Item). TakesIn (behind_word x i) (word_label x) t) item takes in
+    let next : i + 1 ≡ suc k = omega arith in
+    subst (λ (n : ℕ). IsAtMost (entry_label bits) (label_at t n)) next (takes_it (i + 1) refl)
+entry_at items i k p q bits m t before r takes here small there is (inr n) =
+    λ name one. r.higher (suc k) name (before k q bits (omega arith) there is name one)
+
+pub entries_more : (items : List Placed) (i : ℕ) (p : Placed) (m t : State) → HasEntries items i m → Rises m t →
+    TakesIn (behind_word p.item i) (word_label p.item) t → slice_get items i ≡ Some p → HasEntries items (i + 1) t
+entries_more items i p m t before r takes here k q bits small there is =
+    entry_at items i k p q bits m t before r takes here small there is (cases_eq k i)
+
+word_below : (items : List Placed) (i : ℕ) (p : Placed) (any : Labelling) → MeetsFlow items any → slice_get items i ≡ Some p →
+    (item : Item) → p.item ≡ item → (j : ℕ) → behind_word item i ≡ Some j → IsAtMost (word_label item) (any j)
+word_below items i p any meets here (Call bits) is j e =
+    let same : i + 1 ≡ j = same_Some (i + 1) j e in
+    let next : suc i ≡ j = omega arith in
+    subst (λ (n : ℕ). IsAtMost (entry_label bits) (any n)) next (meets.entry i p bits here is)
+word_below items i p any meets here _ is j e = absurd (none-some j e)
+
+pub least_more : (items : List Placed) (i : ℕ) (p : Placed) (s m t : State) → StaysLeast items s m →
+    StaysBelow (behind_word p.item i) (word_label p.item) m t → slice_get items i ≡ Some p → StaysLeast items s t
+least_more items i p s m t least stays here any meets below =
+    stays any (word_below items i p any meets here p.item refl) (least any meets below)
+
+-- the search begins and ends
+queued_apart : (b : Bool) → b ≡ true → b ≡ false → ⊥
+queued_apart b t f = true≢false (sym t ∙ f)
+
+pub sound_from_fresh : (items : List Placed) (s t : State) → IsFresh (length items) s → Rises s t → HasEntries items (length items) t →
+    StaysLeast items s t → IsSound items t
+sound_from_fresh items s t fresh r entries least = record {
+  whole = r.whole (length items) fresh.whole;
+  entries = entries;
+  done = λ k q j p here lead.
+      absurd (queued_apart (is_queued s k) (fresh.all_queued k (slice_get_within items k p here)) (r.told k q).0);
+  below = λ any meets. least any meets (λ k name one. absurd (true≢false (sym one ∙ fresh.public k name)));
+}
+
+unqueued : (items : List Placed) (s : State) → IsSound items s → s.stack ≡ [] → (i : ℕ) → is_queued s i ≡ false
+unqueued items s sound e i =
+    false_from_ne_true (is_queued s i) (λ q.
+    let c : Contains [] i = subst (λ (xs : List ℕ). Contains xs i) e (sound.whole.stacked i q) in
+    let past : c.0 < 0 = c.1 in
+    omega arith)
+
+pub meets_at_end : (items : List Placed) (s : State) → IsSound items s → s.stack ≡ [] → MeetsFlow items (label_at s)
+meets_at_end items s sound e = record {
+  entry = λ i p bits here is. sound.entries i p bits (slice_get_within items i p here) here is;
+  leads = λ i j p here lead. sound.done i (unqueued items s sound e i) j p here lead;
+}
+
+-- the join of one call word, as the code made it
+takes_word : (to : Option ℕ) (out : Label) (item : Item) (i : ℕ) (t : State) → to ≡ behind_word item i → out ≡ word_label item →
+    TakesIn to out t → TakesIn (behind_word item i) (word_label item) t
+takes_word to out item i t a b takes j e = along (word_label item) out (label_at t j) (sym b) (takes j (a ∙ e))
+
+stays_word : (to : Option ℕ) (out : Label) (item : Item) (i : ℕ) (s t : State) → to ≡ behind_word item i → out ≡ word_label item →
+    StaysBelow to out s t → StaysBelow (behind_word item i) (word_label item) s t
+stays_word to out item i s t a b stays any small below =
+    stays any (λ j e. along out (word_label item) (any j) b (small j (sym a ∙ e))) below
+
+pub entries_joined : (items : List Placed) (i : ℕ) (p : Placed) (to : Option ℕ) (out : Label) (m t : State) → to ≡ behind_word p.item i →
+    out ≡ word_label p.item → slice_get items i ≡ Some p → HasEntries items i m → Rises m t → TakesIn to out t → HasEntries items (i + 1) t
+entries_joined items i p to out m t a b here before r takes =
+    entries_more items i p m t before r (takes_word to out p.item i t a b takes) here
+
+pub least_joined : (items : List Placed) (i : ℕ) (p : Placed) (to : Option ℕ) (out : Label) (s m t : State) → to ≡ behind_word p.item i →
+    out ≡ word_label p.item → slice_get items i ≡ Some p → StaysLeast items s m → StaysBelow to out m t → StaysLeast items s t
+least_joined items i p to out s m t a b here least stays =
+    least_more items i p s m t least (stays_word to out p.item i m t a b stays) here

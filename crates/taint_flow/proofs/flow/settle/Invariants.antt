@@ -1,0 +1,8 @@
+use Rattle.taint_flow.specs.Worklist.{state_of, IsSound, work_left}
+use Rattle.taint_flow.proofs.flow.settle.Given as goal
+
+abbrev pub invariant-loop-i : goal.invariant-loop-i
+invariant-loop-i l = IsSound l.items (state_of l.w)
+
+abbrev pub decreases-loop-i : goal.decreases-loop-i
+decreases-loop-i l = work_left (state_of l.w)

@@ -1,0 +1,7 @@
+use Rattle.taint_flow.proofs.Bits.{entry_steps}
+use Rattle.taint_flow.proofs.label.entry_label.Goals as goal
+
+pub returns : goal.returns
+returns c =
+    entry_steps _ _ _ _ _ _ _ _ _ _ c.from.ensures c.has-4.ensures c.has-3.ensures c.has-2.ensures c.has.ensures
+    c.set_reg.ensures c.set_reg-2.ensures c.set_reg-3.ensures c.set_reg-4.ensures

@@ -1,0 +1,53 @@
+use Rattle.std.proofs.Common.{rules, arith, ◌<◌, ℕ, length}
+use Rattle.std.specs.Int.RustNames.{bit_or}
+use Rattle.taint_flow.specs.Label.{IsAtMost}
+use Rattle.taint_flow.specs.Bits.{label_of, labelling_of}
+use Rattle.taint_flow.specs.Worklist.{state_of, label_at}
+use Rattle.taint_flow.proofs.Joins.{rises_queued, rises_pushed, takes_same, takes_joined, stays_joined, with_bits, reads_from, at_named, queued_read}
+use Rattle.taint_flow.proofs.worklist.join.Goals as goal
+
+pub returns-then-joined-before-clause-takes : goal.returns-then-joined-before-clause-takes
+returns-then-joined-before-clause-takes c =
+    at_named c.args.to c.in-Some.to (λ (k : ℕ). IsAtMost (label_of c.args.out.bits) (label_at (state_of c.args.w.now) k)) c.in-Some.is
+    (takes_same (state_of c.args.w.now) c.in-Some.to c.args.out.bits c.index.result.now (c.requires.inside c.in-Some.to c.in-Some.is) c.index.ensures
+    c.if-joined-before.true)
+
+pub returns-in_ok-push-clause-rises : goal.returns-in_ok-push-clause-rises
+returns-in_ok-push-clause-rises c =
+    rises_pushed (state_of c.args.w.now) c.in-Some.to c.index.result.now.bits c.args.out.bits _
+    (reads_from _ _ _ c.index.result.now (c.requires.inside c.in-Some.to c.in-Some.is) c.requires.flags c.index.ensures (search rules) c.if-joined-before.false)
+    c.in_ok-push.ensures.items
+
+pub returns-in_ok-push-clause-takes : goal.returns-in_ok-push-clause-takes
+returns-in_ok-push-clause-takes c =
+    at_named c.args.to c.in-Some.to
+    (λ (k : ℕ). IsAtMost (label_of c.args.out.bits)
+    (labelling_of (with_bits c.args.w.now.labels.items c.in-Some.to (bit_or c.index.result.now.bits c.args.out.bits)) k))
+    c.in-Some.is (takes_joined (state_of c.args.w.now) c.in-Some.to c.index.result.now.bits c.args.out.bits (c.requires.inside c.in-Some.to c.in-Some.is))
+
+pub returns-in_ok-push-clause-stays : goal.returns-in_ok-push-clause-stays
+returns-in_ok-push-clause-stays c = λ any small below.
+    stays_joined (state_of c.args.w.now) c.in-Some.to c.index.result.now.bits c.args.out.bits
+    (reads_from _ _ _ c.index.result.now (c.requires.inside c.in-Some.to c.in-Some.is) c.requires.flags c.index.ensures (search rules) c.if-joined-before.false)
+    any (small c.in-Some.to c.in-Some.is) below
+
+pub returns-else-not-index-clause-rises : goal.returns-else-not-index-clause-rises
+returns-else-not-index-clause-rises c =
+    let named : c.in-Some.to < length c.args.w.now.labels.items = c.requires.inside c.in-Some.to c.in-Some.is in
+    let inside : c.in-Some.to < length c.args.w.now.queued.items = omega (arith, c.requires.flags) in
+    rises_queued (state_of c.args.w.now) c.in-Some.to c.index.result.now.bits c.args.out.bits
+    (reads_from _ _ _ c.index.result.now (c.requires.inside c.in-Some.to c.in-Some.is) c.requires.flags c.index.ensures (search rules) c.if-joined-before.false)
+    (queued_read c.args.w.now.queued.items c.in-Some.to c.index-2.result.now inside c.index-2.ensures c.if-not-index.false)
+
+pub returns-else-not-index-clause-takes : goal.returns-else-not-index-clause-takes
+returns-else-not-index-clause-takes c =
+    at_named c.args.to c.in-Some.to
+    (λ (k : ℕ). IsAtMost (label_of c.args.out.bits)
+    (labelling_of (with_bits c.args.w.now.labels.items c.in-Some.to (bit_or c.index.result.now.bits c.args.out.bits)) k))
+    c.in-Some.is (takes_joined (state_of c.args.w.now) c.in-Some.to c.index.result.now.bits c.args.out.bits (c.requires.inside c.in-Some.to c.in-Some.is))
+
+pub returns-else-not-index-clause-stays : goal.returns-else-not-index-clause-stays
+returns-else-not-index-clause-stays c = λ any small below.
+    stays_joined (state_of c.args.w.now) c.in-Some.to c.index.result.now.bits c.args.out.bits
+    (reads_from _ _ _ c.index.result.now (c.requires.inside c.in-Some.to c.in-Some.is) c.requires.flags c.index.ensures (search rules) c.if-joined-before.false)
+    any (small c.in-Some.to c.in-Some.is) below

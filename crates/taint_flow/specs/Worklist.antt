@@ -1,0 +1,95 @@
+-- The state of the labelling while it is found: a label for each item, whether an item is queued, and the stack of the queued.
+use Rattle.std.specs.Prelude.{◌≡◌, ℕ, suc, ◌+◌, ◌-◌, ◌*◌, ◌^◌, ◌<◌, ◌≤◌, Bool, true, false, List, length, Option, Some, None, slice_get, slice_index_or, Contains}
+use Rattle.std.specs.List.{sum_by}
+use Rattle.code_sweep.specs.declared.item.Item.{Item}
+use Rattle.code_sweep.specs.declared.item.Item.TheVariants.{Call}
+use Rattle.code_sweep.specs.declared.item.Placed.{Placed}
+use Rattle.taint_flow.specs.Label.{Label, IsAtMost, entry_label}
+use Rattle.taint_flow.specs.Flow.{Labelling, MeetsFlow, Leads, left_behind}
+use Rattle.taint_flow.specs.Bits.{label_of, labelling_of}
+use Rattle.taint_flow.specs.declared.label.Label.{Label as LabelBits}
+use Rattle.taint_flow.specs.declared.worklist.Worklist.{Worklist}
+
+pub record State : Type 0 where
+  pub labels : List LabelBits
+  pub queued : List Bool
+  pub stack : List ℕ
+
+abbrev pub state_of : Worklist → State
+state_of w = record { labels = w.labels.items; queued = w.queued.items; stack = w.stack.items }
+
+-- what may be private before an item
+abbrev pub label_at : State → Labelling
+label_at s = labelling_of s.labels
+
+abbrev pub is_queued : State → ℕ → Bool
+is_queued s i = slice_index_or s.queued i false
+
+-- one label and one flag for each of so many items, and the stack holds numbers of items, each queued one among them
+pub record IsWhole (count : ℕ) (s : State) : Type 0 where
+  pub labels : length s.labels ≡ count
+  pub queued : length s.queued ≡ count
+  pub inside : (k d : ℕ) → k < length s.stack → slice_index_or s.stack k d < count
+  pub stacked : (i : ℕ) → is_queued s i ≡ true → Contains s.stack i
+
+-- the labels lie below a labelling
+abbrev pub IsBelow : State → Labelling → Type 0
+IsBelow s any = (i : ℕ) → IsAtMost (label_at s i) (any i)
+
+-- what is left to do: each label can rise, and each item on the stack is to be looked at
+abbrev pub room_above : LabelBits → ℕ
+room_above l = 2 ^ 32 - l.bits
+
+abbrev pub work_left : State → ℕ
+work_left s = 2 * sum_by room_above s.labels + length s.stack
+
+-- from one state to a later one: labels only rise, and what rose is queued
+pub record Rises (s t : State) : Type 0 where
+  pub labels : length t.labels ≡ length s.labels
+  pub whole : (count : ℕ) → IsWhole count s → IsWhole count t
+  pub higher : (i : ℕ) → IsAtMost (label_at s i) (label_at t i)
+  pub told : (i : ℕ) → is_queued t i ≡ false → (is_queued s i ≡ false) × (label_at t i ≡ label_at s i)
+  pub work : work_left t ≤ work_left s
+
+-- the label of the item there, if one is named, takes in a label, and the others don't
+abbrev pub TakesIn : Option ℕ → Label → State → Type 0
+TakesIn to out t = (j : ℕ) → to ≡ Some j → IsAtMost out (label_at t j)
+
+abbrev pub StaysBelow : Option ℕ → Label → State → State → Type 0
+StaysBelow to out s t = (any : Labelling) → ((j : ℕ) → to ≡ Some j → IsAtMost out (any j)) → IsBelow s any → IsBelow t any
+
+-- item i has handed on what it leaves
+abbrev pub HandsOn : List Placed → ℕ → State → State → Type 0
+HandsOn items i s t =
+    (j : ℕ) (p : Placed) → slice_get items i ≡ Some p → Leads items i j → IsAtMost (left_behind p.item (label_at s i)) (label_at t j)
+
+-- behind each call word, of the first so many items, there is at least what it says
+abbrev pub HasEntries : List Placed → ℕ → State → Type 0
+HasEntries items count s =
+    (i : ℕ) (p : Placed) (bits : ℕ) → i < count → slice_get items i ≡ Some p → p.item ≡ Call bits → IsAtMost (entry_label bits) (label_at s (suc i))
+
+-- the item behind a call word, and what the word says of it
+abbrev pub behind_word : Item → ℕ → Option ℕ
+behind_word (Call bits) i = Some (i + 1)
+behind_word _ i = None
+
+abbrev pub word_label : Item → Label
+word_label (Call bits) = entry_label bits
+word_label _ = label_of 0
+
+-- no label rises above what every labelling has that meets the flow rules
+abbrev pub StaysLeast : List Placed → State → State → Type 0
+StaysLeast items s t = (any : Labelling) → MeetsFlow items any → IsBelow s any → IsBelow t any
+
+-- at the start nothing is private and every item is queued
+pub record IsFresh (count : ℕ) (s : State) : Type 0 where
+  pub whole : IsWhole count s
+  pub public : (i k : ℕ) → label_at s i k ≡ false
+  pub all_queued : (i : ℕ) → i < count → is_queued s i ≡ true
+
+-- what the search for the least labelling keeps: no label is too high, and what is not queued has handed on
+pub record IsSound (items : List Placed) (s : State) : Type 0 where
+  pub whole : IsWhole (length items) s
+  pub entries : HasEntries items (length items) s
+  pub done : (i : ℕ) → is_queued s i ≡ false → HandsOn items i s s
+  pub below : (any : Labelling) → MeetsFlow items any → IsBelow s any

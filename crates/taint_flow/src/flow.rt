@@ -1,0 +1,233 @@
+//! The least labels that meet the flow rules.
+
+ghost use Rattle.std.specs.Prelude.{◌≡◌, ℕ, suc, ◌+◌, ◌<◌, ◌≤◌, ◌^◌, [], List, Option, Some, None, slice_get, length, OnOk, IfOk, if◌then◌else◌};
+ghost use Rattle.cv_word.specs.Arithmetic.{added};
+ghost use Rattle.cv_word.specs.MemoryMap.{code_base};
+ghost use Rattle.cv_word.specs.Words.{widened};
+ghost use Rattle.taint_flow.specs.declared.label.Label.{Label as LabelBits};
+ghost use Rattle.taint_flow.specs.Label.{IsAtMost, entry_label};
+ghost use Rattle.taint_flow.specs.Flow.{Labelling, MeetsFlow, falls_through, left_behind, jump_target};
+ghost use Rattle.taint_flow.specs.Bits.{label_of, labelling_of};
+ghost use Rattle.taint_flow.specs.Places.{StandInOrder, NextStands, NumbersItems, number_at};
+ghost use Rattle.taint_flow.specs.Worklist.{state_of, IsWhole, Rises, HandsOn, StaysLeast, HasEntries, IsFresh, IsSound, behind_word, word_label};
+
+use crate::label::{Label, entry_label, left_by};
+use crate::places::{ItemNumbers, item_numbers};
+use crate::worklist::{Worklist, join};
+use code_sweep::{Item, Listing, Placed};
+use cv_word::NoMemory;
+use std::alloc::Global;
+use std::marker::Model;
+use x64_decode::Instr;
+
+/// The flat address of a code's first byte.
+const CODE_BASE: u64 = 0x1_0000;
+
+/// A label for each item of a listing, by the item's number from 0.
+#[derive(Drop)]
+pub struct Labels {
+    labels: Vec<Label>,
+}
+
+impl Model for Labels {
+    ghost Value = { List LabelBits };
+
+    ghost view = { λ t. t.labels.items };
+}
+
+impl Labels {
+    /// The number of labels, which is that of the items.
+    pub fn len(&self) -> usize
+        ensures { result ≡ length self.now }
+    {
+        self.labels.len()
+    }
+
+    /// The label before item `i`.
+    pub fn get(&self, i: usize) -> Label
+        requires { i < length self.now }
+        ensures { slice_get self.now i ≡ Some result }
+    {
+        self.labels[i]
+    }
+}
+
+/// The least labels that meet the flow rules. The listing's items stand in order in its code of at most 4,194,304 bytes,
+/// and one stands behind each call word and each item that leads to the next. A jump whose target is no item leads nowhere.
+/// An item that nothing leads to has nothing private before it, and still hands on what it leaves. Room for the labels and
+/// the worklist is taken at the start; the one error is want of memory.
+pub fn label_code(alloc: Global, listing: &Listing<'_>) -> Result<Labels, NoMemory>
+    requires order { StandInOrder listing.now.items.items listing.now.code.now }
+    requires limit { length listing.now.code.now ≤ 4194304 }
+    requires next { NextStands listing.now.items.items }
+    ensures len { IfOk result (λ labels. length labels ≡ length listing.now.items.items) }
+    ensures meets { IfOk result (λ labels. MeetsFlow listing.now.items.items (labelling_of labels)) }
+    ensures least { IfOk result (λ labels. (any : Labelling) → MeetsFlow listing.now.items.items any → (i : ℕ) → IsAtMost (labelling_of labels i) (any i)) }
+{
+    let numbers = item_numbers(alloc, listing)?;
+    let items = listing.items.as_slice();
+    let mut w = queue_all(alloc, items.len())?;
+    enter_words(&mut w, items)?;
+    settle(&mut w, items, &numbers)?;
+    Ok(Labels { labels: w.labels })
+}
+
+/// Nothing is private, and every item is queued, the first on top.
+fn queue_all(alloc: Global, count: usize) -> Result<Worklist, NoMemory>
+    requires { count < 2 ^ 32 }
+    ensures { IfOk result (λ w. IsFresh count (state_of w)) }
+{
+    let labels = vec![in alloc; Label { bits: 0 }; count]?;
+    let queued = vec![in alloc; true; count]?;
+    let mut stack = Vec::with_capacity(alloc, count)?;
+    for i in 0..count {
+        stack.push((count - 1 - i) as u32)?;
+    }
+    Ok(Worklist {
+        labels,
+        queued,
+        stack,
+    })
+}
+
+/// Joins what each call word says into the label behind it.
+fn enter_words(w: &mut Worklist, items: &[Placed]) -> Result<(), NoMemory>
+    requires whole { IsWhole (length items.now) (state_of w.old) }
+    requires limit { length items.now < 2 ^ 32 }
+    requires next { NextStands items.now }
+    ensures rises { OnOk result (Rises (state_of w.old) (state_of w.new)) }
+    ensures entries { OnOk result (HasEntries items.now (length items.now) (state_of w.new)) }
+    ensures least { OnOk result (StaysLeast items.now (state_of w.old) (state_of w.new)) }
+{
+    for (i, p) in items.iter().enumerate() {
+        join(w, behind_word(&p.item, i), word_label(&p.item))?;
+    }
+    Ok(())
+}
+
+/// The number of the item behind a call word.
+fn behind_word(item: &Item, i: usize) -> Option<u32>
+    requires { i + 1 < 2 ^ 32 }
+    ensures { result ≡ behind_word item.now i }
+{
+    match *item {
+        Item::Call(_) => Some((i + 1) as u32),
+        _ => None,
+    }
+}
+
+/// What a call word says of the item behind it.
+fn word_label(item: &Item) -> Label
+    ensures { label_of result.bits ≡ word_label item.now }
+{
+    match *item {
+        Item::Call(bits) => entry_label(bits),
+        _ => Label { bits: 0 },
+    }
+}
+
+/// Lets each queued item hand on what it leaves, until none is queued.
+fn settle(w: &mut Worklist, items: &[Placed], numbers: &ItemNumbers) -> Result<(), NoMemory>
+    requires sound { IsSound items.now (state_of w.old) }
+    requires limit { length items.now < 2 ^ 32 }
+    requires numbers { NumbersItems items.now (number_at numbers.now) }
+    requires next { NextStands items.now }
+    ensures sound { OnOk result (IsSound items.now (state_of w.new)) }
+    ensures empty { OnOk result (w.new.stack.items ≡ []) }
+{
+    while let Some(i) = w.stack.pop() {
+        let i = i as usize;
+        w.queued[i] = false;
+        hand_on(w, items, numbers, i)?;
+    }
+    Ok(())
+}
+
+/// Joins what item `i` leaves into the labels of the items that it leads to.
+fn hand_on(
+    w: &mut Worklist,
+    items: &[Placed],
+    numbers: &ItemNumbers,
+    i: usize,
+) -> Result<(), NoMemory>
+    requires whole { IsWhole (length items.now) (state_of w.old) }
+    requires inside { i < length items.now }
+    requires limit { length items.now < 2 ^ 32 }
+    requires numbers { NumbersItems items.now (number_at numbers.now) }
+    requires next { NextStands items.now }
+    ensures rises { OnOk result (Rises (state_of w.old) (state_of w.new)) }
+    ensures handed { OnOk result (HandsOn items.now i (state_of w.old) (state_of w.new)) }
+    ensures least { OnOk result (StaysLeast items.now (state_of w.old) (state_of w.new)) }
+{
+    let p = items[i];
+    let out = left_behind(&p.item, w.labels[i]);
+    join(w, next_number(&p.item, i), out)?;
+    join(w, target_number(numbers, &p), out)?;
+    Ok(())
+}
+
+/// What may be private behind an item.
+fn left_behind(item: &Item, l: Label) -> Label
+    ensures { label_of result.bits ≡ left_behind item.now (label_of l.bits) }
+{
+    match *item {
+        Item::Plain(i) => left_by(&i, l),
+        _ => l,
+    }
+}
+
+/// The number of the item behind, if the item leads there.
+fn next_number(item: &Item, i: usize) -> Option<u32>
+    requires { i + 1 < 2 ^ 32 }
+    ensures { result ≡ (if falls_through item.now then Some (i + 1) else None) }
+{
+    if falls_through(item) {
+        Some((i + 1) as u32)
+    } else {
+        None
+    }
+}
+
+fn falls_through(item: &Item) -> bool
+    ensures { result ≡ falls_through item.now }
+{
+    match *item {
+        Item::Plain(Instr::Call { rel: _ }) => false,
+        Item::Plain(Instr::Jmp { rel: _ }) => false,
+        Item::Plain(Instr::Ud2) => false,
+        Item::Plain(_) => true,
+        _ => false,
+    }
+}
+
+/// The number of the item at a jump's target.
+fn target_number(numbers: &ItemNumbers, p: &Placed) -> Option<u32>
+    ensures found { (place : ℕ) → jump_target p.now ≡ Some (code_base + place) → result ≡ number_at numbers.now place }
+    ensures only { (j : ℕ) → result ≡ Some j → (place : ℕ) × (jump_target p.now ≡ Some (code_base + place)) × (number_at numbers.now place ≡ Some j) }
+{
+    let Some(target) = jump_target(p) else {
+        return None;
+    };
+    if target < CODE_BASE {
+        return None;
+    }
+    numbers.at(target - CODE_BASE)
+}
+
+/// The flat address where a jump goes, modulo 2^64, if the item is one.
+pub fn jump_target(p: &Placed) -> Option<u64>
+    ensures { result ≡ jump_target p.now }
+{
+    let behind = CODE_BASE + u64::from(p.at) + u64::from(p.len);
+    match p.item {
+        Item::Plain(Instr::Jmp { rel }) => Some(target_from(behind, rel)),
+        Item::Plain(Instr::Jcc { cc: _, rel }) => Some(target_from(behind, rel)),
+        _ => None,
+    }
+}
+
+fn target_from(behind: u64, rel: i32) -> u64
+    ensures { result ≡ added behind (widened rel) }
+{
+    behind.wrapping_add(i64::from(rel).cast_unsigned())
+}
