@@ -1,0 +1,101 @@
+-- The answers of the check's steps, from what its searches answer.
+use Rattle.std.proofs.Common.{◌≡◌, ℕ, zero, suc, ◌+◌, ◌-◌, ◌<◌, ◌≤◌, Bool, true, false, List, [], ◌∷◌, length, get_or, slice_index, Option, Some, refl, sym, ◌∙◌, ap, subst, arith, slice_get}
+use Rattle.std.proofs.lemmas.Option.{slice_get-get_or, get_or_from_slice_get}
+use Rattle.cv_word.specs.MemoryMap.{code_base}
+use Rattle.magic_words.specs.MagicWords.{AreOccurrences}
+use Rattle.code_sweep.specs.declared.item.Placed.{Placed}
+use Rattle.taint_flow.specs.Flow.{Labelling, MeetsFlow}
+use Rattle.taint_flow.specs.Label.{IsAtMost}
+use Rattle.taint_flow.specs.Bits.{labelling_of}
+use Rattle.taint_flow.specs.declared.label.Label.{Label as LabelBits}
+use Rattle.taint_flow.proofs.Tables.{count_small}
+use Rattle.taint_flow.proofs.Chain.{order_from_listing}
+use Rattle.image_form.specs.Image.{Image, IsGood}
+use Rattle.image_form.specs.declared.parts.Parts.{Parts}
+use Rattle.conf_verify.specs.declared.rule.Rule.{Rule}
+use Rattle.conf_verify.specs.declared.rule.Rule.TheVariants.{V3, V4, V6, V9}
+use Rattle.conf_verify.specs.declared.verdict.VerifyError.{VerifyError}
+use Rattle.conf_verify.specs.declared.verdict.VerifyError.TheVariants.{NoMemory, Refused}
+use Rattle.conf_verify.specs.Rules.{BreaksShape, BreaksPrefix, FollowsCallWord, rule_number}
+use Rattle.conf_verify.specs.Search.{BadEnd, BadJump, BadOccurrence, BadLabel}
+use Rattle.conf_verify.specs.Verdict.{IsImage, HasListing, IsAcceptedImage, IsVerdict}
+use Rattle.conf_verify.specs.Answer.{image_of, checked_of, HasCounts, IsRefusal}
+use Rattle.conf_verify.specs.Steps.{IsCodeVerdict, IsCodeRefusal, HoldsBelow}
+use Rattle.conf_verify.proofs.Chains.{one_call_word, one_word_less}
+use Rattle.conf_verify.proofs.Told.{told_code}
+use Rattle.conf_verify.proofs.Steps.{told_ends, told_jumps, told_prefix, no_prefix, told_entry, no_entry, first_is_call, holds_four}
+use Rattle.conf_verify.proofs.Flows.{IsLeastBroken, told_flow, accepts}
+
+pub refusal : (image : Image) (error : VerifyError) (rule : Rule) (at : ℕ) → error ≡ Refused rule at → IsCodeVerdict image rule at → IsCodeRefusal image error
+refusal image error rule at is v = subst (λ (e : VerifyError). IsCodeRefusal image e) (sym is) v
+
+pub raise : (bytes : List ℕ) (image : Image) (error : VerifyError) → IsImage bytes image → IsCodeRefusal image error → IsRefusal bytes error
+raise bytes image NoMemory is r = tt
+raise bytes image (Refused rule at) is r = told_code bytes image is rule at r
+
+pub ends_at : (image : Image) (xs : List Placed) (i : ℕ) (d : Placed) → HasListing image xs → (i < length xs) × BadEnd xs i × ((j : ℕ) → j < i → BadEnd xs j → ⊥) → IsCodeVerdict image V3 (code_base + (get_or xs i d).at)
+ends_at image xs i d listing found = told_ends image xs i (get_or xs i d) listing (slice_get-get_or xs i d found.0) found.1 found.2
+
+pub jumps_at : (image : Image) (xs : List Placed) (i : ℕ) (d : Placed) → IsGood image → HasListing image xs → HoldsBelow image xs 6 → (i < length xs) × BadJump xs i × ((j : ℕ) → j < i → BadJump xs j → ⊥) →
+    IsCodeVerdict image V6 (code_base + (get_or xs i d).at)
+jumps_at image xs i d good listing below found = told_jumps image xs i (get_or xs i d) good listing (slice_get-get_or xs i d found.0) found.1 found.2 below
+
+the_place : (ys : List ℕ) (k place : ℕ) → k < length ys → place ≡ get_or ys k place → place ≡ slice_index ys k
+the_place ys k place inside is = is ∙ get_or_from_slice_get ys k (slice_index ys k) place (slice_get-get_or ys k 0 inside)
+
+pub prefix_at : (image : Image) (items xs : List Placed) (places ys : List ℕ) (k place : ℕ) → xs ≡ items → ys ≡ places → IsGood image → HasListing image items →
+    AreOccurrences image.prefix image.code (length image.code) places → place ≡ get_or places k place → (k < length ys) × BadOccurrence xs ys k × ((j : ℕ) → j < k → BadOccurrence xs ys j → ⊥) → HoldsBelow image items 4 →
+    IsCodeVerdict image V4 (code_base + place)
+prefix_at image items xs places ys k place same same' good listing are is found below =
+    let listing' = subst (λ (l : List Placed). HasListing image l) (sym same) listing in
+    let below' = subst (λ (l : List Placed). HoldsBelow image l 4) (sym same) below in
+    let are' = subst (λ (l : List ℕ). AreOccurrences image.prefix image.code (length image.code) l) (sym same') are in
+    subst (λ n. IsCodeVerdict image V4 (code_base + n)) (sym (the_place ys k place found.0 (is ∙ ap (λ (l : List ℕ). get_or l k place) (sym same'))))
+    (told_prefix image xs ys k good listing' are' found.0 found.1 found.2 below')
+
+pub prefix_none : (image : Image) (items xs : List Placed) (places ys : List ℕ) → xs ≡ items → ys ≡ places → IsGood image → AreOccurrences image.prefix image.code (length image.code) places →
+    ((k : ℕ) → k < length ys → BadOccurrence xs ys k → ⊥) → (place : ℕ) → BreaksPrefix image.prefix image.code items place → ⊥
+prefix_none image items xs places ys same same' good are none =
+    subst (λ (l : List Placed). (place : ℕ) → BreaksPrefix image.prefix image.code l place → ⊥) same
+    (no_prefix image xs ys good (subst (λ (l : List ℕ). AreOccurrences image.prefix image.code (length image.code) l) (sym same') are) none)
+
+pub entry_at : (image : Image) (items xs : List Placed) (entries : List ℕ) → xs ≡ items → entries ≡ image.entries → HasListing image items → length image.entries ≡ 1 →
+    (FollowsCallWord xs (slice_index entries 0) → ⊥) → HoldsBelow image items 9 → IsCodeVerdict image V9 (code_base + slice_index entries 0)
+entry_at image items xs entries same same' listing one not below =
+    let e = subst (λ (l : List ℕ). slice_get image.entries 0 ≡ Some (slice_index l 0)) (sym same') (slice_get-get_or image.entries 0 0 (omega (arith, one))) in
+    told_entry image items (slice_index entries 0) listing one e (subst (λ (l : List Placed). FollowsCallWord l (slice_index entries 0) → ⊥) same not) below
+
+pub flow_at : (image : Image) (items xs : List Placed) (labels : List LabelBits) (i : ℕ) (d : Placed) (rule : Rule) → xs ≡ items → HasListing image items → MeetsFlow items (labelling_of labels) →
+    ((any : Labelling) → MeetsFlow items any → (k : ℕ) → IsAtMost (labelling_of labels k) (any k)) → ((other : Rule) (place : ℕ) → BreaksShape other image items place → ⊥) →
+    (i < length xs) × BadLabel xs (labelling_of labels) rule i × ((other : Rule) (j : ℕ) → j < i → BadLabel xs (labelling_of labels) other j → ⊥)
+    × ((other : Rule) → rule_number other < rule_number rule → BadLabel xs (labelling_of labels) other i → ⊥) →
+    IsCodeVerdict image rule (code_base + (get_or xs i d).at)
+flow_at image items xs labels i d rule same listing meets least shape found =
+    told_flow image xs (labelling_of labels) (subst (λ (l : List Placed). HasListing image l) (sym same) listing)
+    (subst (λ (l : List Placed). MeetsFlow l (labelling_of labels)) (sym same) meets)
+    (subst (λ (l : List Placed). (any : Labelling) → MeetsFlow l any → (k : ℕ) → IsAtMost (labelling_of labels k) (any k)) (sym same) least)
+    (subst (λ (l : List Placed). (other : Rule) (place : ℕ) → BreaksShape other image l place → ⊥) (sym same) shape)
+    i (get_or xs i d) rule (slice_get-get_or xs i d found.0) (record { bad = found.1; first = found.2; lowest = found.3 })
+
+pub flow_none : (image : Image) (items xs : List Placed) (labels : List LabelBits) → xs ≡ items → HasListing image items → MeetsFlow items (labelling_of labels) →
+    ((other : Rule) (place : ℕ) → BreaksShape other image items place → ⊥) → ((rule : Rule) (i : ℕ) → i < length xs → BadLabel xs (labelling_of labels) rule i → ⊥) → IsAcceptedImage image
+flow_none image items xs labels same listing meets shape fine =
+    accepts image items (labelling_of labels) listing meets shape
+    (subst (λ (l : List Placed). (rule : Rule) (i : ℕ) → i < length l → BadLabel l (labelling_of labels) rule i → ⊥) same fine)
+
+pub few_items : (image : Image) (items : List Placed) → IsGood image → HasListing image items → length items ≤ 4194304
+few_items image items good listing =
+    let few = count_small items image.code (order_from_listing image.prefix image.code items listing) in
+    let code = good.code in let most = code.1 in omega arith
+
+pub counts_are : (parts : Parts) (items : List Placed) (n : ℕ) → IsGood (image_of parts) → HasListing (image_of parts) items → ((rule : Rule) (place : ℕ) → BreaksShape rule (image_of parts) items place → ⊥) →
+    n ≡ length items - 1 → HasCounts (checked_of parts 1 n)
+counts_are parts items n good listing shape is =
+    let f = first_is_call (image_of parts) items good listing (λ rule place low b. shape rule place b) in
+    let less = one_word_less (image_of parts).prefix (image_of parts).code items (length (image_of parts).code) f.0 listing f.1 f.2 in
+    record {
+      listing = items;
+      is = listing;
+      procedures_is = one_call_word (image_of parts).prefix (image_of parts).code items (length (image_of parts).code) f.0 listing f.1 f.2;
+      items_is = omega arith;
+    }

@@ -1,0 +1,172 @@
+-- From the first item that breaks a rule under the least labels to the verdict, and to acceptance.
+use Rattle.std.proofs.Common.{◌≡◌, ◌≢◌, ℕ, zero, suc, ◌+◌, ◌-◌, ◌<◌, ◌≤◌, Bool, true, false, ◌||◌, List, [], ◌∷◌, length, Option, Some, None, refl, sym, ◌∙◌, ap, subst, arith, ◌⊎◌, inl, inr, slice_get}
+use Rattle.std.proofs.lemmas.Bool.{cases_order, true≢false}
+use Rattle.std.proofs.lemmas.Option.{slice_get_within}
+use Rattle.cv_word.specs.MemoryMap.{code_base}
+use Rattle.x64_decode.specs.declared.instr.Reg.TheVariants.{Rax, Rdx, Rsp}
+use Rattle.x64_decode.specs.declared.instr.Seg.{Seg}
+use Rattle.x64_decode.specs.declared.instr.Seg.TheVariants.{Fs, Gs}
+use Rattle.x64_decode.specs.declared.instr.Mem.{Mem}
+use Rattle.x64_decode.specs.declared.instr.Instr.{Instr}
+use Rattle.x64_decode.specs.declared.instr.Instr.TheVariants.{Store, Jcc, Idiv}
+use Rattle.code_sweep.specs.declared.item.Item.{Item}
+use Rattle.code_sweep.specs.declared.item.Item.TheVariants.{Call, Ret, Plain, ReturnUnit, CallUnit}
+use Rattle.code_sweep.specs.declared.item.Placed.{Placed}
+use Rattle.code_sweep.specs.Listing.{BreaksAt}
+use Rattle.taint_flow.specs.Label.{Label, IsAtMost, taint, flags, left_by}
+use Rattle.taint_flow.specs.Flow.{Labelling, MeetsFlow, memory_of, base_is_private, shows_private, has_private_address, stores_private, branches_on_private, divides_private, leaves_private_stack}
+use Rattle.taint_flow.proofs.Monotone.{left_by_up}
+use Rattle.image_form.specs.Image.{Image}
+use Rattle.conf_verify.specs.declared.rule.Rule.{Rule}
+use Rattle.conf_verify.specs.declared.rule.Rule.TheVariants.{V1, V2, V3, V4, V5, V6, V7, V8, V9, V10, V11, V12, V13, V14, V15, V16}
+use Rattle.conf_verify.specs.Rules.{BreaksShape, BreaksFlow, BreaksUnder, breaks_label, item_breaks, is_flow_rule, rule_number}
+use Rattle.conf_verify.specs.Search.{BadLabel, IsFirstBroken}
+use Rattle.conf_verify.specs.Verdict.{HasListing, Precedes, IsBefore, IsAcceptedImage}
+use Rattle.conf_verify.specs.Steps.{IsCodeVerdict}
+use Rattle.conf_verify.proofs.One.{one_chain, no_break}
+use Rattle.conf_verify.proofs.Steps.{comes_before}
+use Rattle.conf_verify.proofs.Chains.{chain_rising}
+use Rattle.conf_verify.proofs.Told.{Seen, seen_break, seen_shape, seen_flow, see, of_listing}
+
+some_same : {A : Type 0} (x y : A) → (let o : Option A = Some x in o) ≡ Some y → x ≡ y
+some_same x y e = cc
+
+-- ---- where more may be private, more breaks
+
+or_cases : (a b : Bool) → (a || b) ≡ true → (a ≡ true) ⊎ (b ≡ true)
+or_cases true b e = inl refl
+or_cases false b e = inr e
+
+or_left : (a b : Bool) → a ≡ true → (a || b) ≡ true
+or_left true b e = refl
+or_left false b e = absurd (true≢false (sym e))
+
+or_right : (a b : Bool) → b ≡ true → (a || b) ≡ true
+or_right true b e = refl
+or_right false b e = e
+
+either_up : (a b c d : Bool) → (a ≡ true → c ≡ true) → (b ≡ true → d ≡ true) → (a || b) ≡ true → (c || d) ≡ true
+either_up a b c d f g e = elim (or_cases a b e) [ inl h ↦ or_left c d (f h) | inr h ↦ or_right c d (g h) ]
+
+base_up : (m : Option Mem) (l k : Label) → IsAtMost l k → base_is_private m l ≡ true → base_is_private m k ≡ true
+base_up None l k h e = e
+base_up (Some mem) l k h e = h _ e
+
+shown_up : (seg : Seg) (a b : Bool) → (a ≡ true → b ≡ true) → shows_private seg a ≡ true → shows_private seg b ≡ true
+shown_up Fs a b f e = f e
+shown_up Gs a b f e = e
+
+stores_up : (i : Instr) (l k : Label) → IsAtMost l k → stores_private i l ≡ true → stores_private i k ≡ true
+stores_up (Store width mem src) l k h e = shown_up mem.seg (taint l src) (taint k src) (h _) e
+stores_up _ l k h e = e
+
+branches_up : (i : Instr) (l k : Label) → IsAtMost l k → branches_on_private i l ≡ true → branches_on_private i k ≡ true
+branches_up (Jcc cc rel) l k h e = h flags e
+branches_up _ l k h e = e
+
+divides_up : (i : Instr) (l k : Label) → IsAtMost l k → divides_private i l ≡ true → divides_private i k ≡ true
+divides_up (Idiv r) l k h e =
+    either_up (taint l Rax) (taint l Rdx || taint l r) (taint k Rax) (taint k Rdx || taint k r) (h _)
+    (either_up (taint l Rdx) (taint l r) (taint k Rdx) (taint k r) (h _) (h _)) e
+divides_up _ l k h e = e
+
+label_up : (rule : Rule) (i : Instr) (l k : Label) → IsAtMost l k → breaks_label rule i l ≡ true → breaks_label rule i k ≡ true
+label_up V10 i l k h e = base_up (memory_of i) l k h e
+label_up V11 i l k h e = stores_up i l k h e
+label_up V12 i l k h e = branches_up i l k h e
+label_up V13 i l k h e = divides_up i l k h e
+label_up V14 i l k h e = left_by_up i l k h _ e
+label_up _ i l k h e = absurd (true≢false (sym e))
+
+item_up : (rule : Rule) (item : Item) (l k : Label) → IsAtMost l k → item_breaks rule item l ≡ true → item_breaks rule item k ≡ true
+item_up rule (Plain i) l k h e = label_up rule i l k h e
+item_up rule _ l k h e = absurd (true≢false (sym e))
+
+flow_rule : (rule : Rule) (i : Instr) (l : Label) → breaks_label rule i l ≡ true → is_flow_rule rule ≡ true
+flow_rule V10 i l e = refl
+flow_rule V11 i l e = refl
+flow_rule V12 i l e = refl
+flow_rule V13 i l e = refl
+flow_rule V14 i l e = refl
+flow_rule _ i l e = absurd (true≢false (sym e))
+
+item_flow_rule : (rule : Rule) (item : Item) (l : Label) → item_breaks rule item l ≡ true → is_flow_rule rule ≡ true
+item_flow_rule rule (Plain i) l e = flow_rule rule i l e
+item_flow_rule rule _ l e = absurd (true≢false (sym e))
+
+-- ---- the verdict
+
+before_flow : (f g : Bool) (n there m at : ℕ) → f ≡ true → g ≡ true → Precedes f g n there m at → (there < at) ⊎ ((there ≡ at) × (n < m))
+before_flow true true n there m at e g h = h
+before_flow false g n there m at e k h = absurd (true≢false (sym e))
+before_flow true false n there m at e g h = absurd (true≢false (sym g))
+
+-- the first item that breaks a rule, and the lowest rule that it breaks
+pub record IsLeastBroken (items : List Placed) (labels : Labelling) (i : ℕ) (rule : Rule) : Type 0 where
+  pub bad : BadLabel items labels rule i
+  pub first : (other : Rule) (j : ℕ) → j < i → BadLabel items labels other j → ⊥
+  pub lowest : (other : Rule) → rule_number other < rule_number rule → BadLabel items labels other i → ⊥
+
+same_place : (prefix code : List ℕ) (image : Image) (items : List Placed) → HasListing image items → (i j : ℕ) (p q : Placed) → slice_get items i ≡ Some p → slice_get items j ≡ Some q → q.at ≡ p.at → j ≡ i
+same_place prefix code image items listing i j p q e f same =
+    elim (cases_order i j) [
+      | inl is ↦ sym is
+      | inr h ↦ elim h [
+        | inl later ↦ absurd (let s = chain_rising image.prefix image.code items 0 (length image.code) i j p q listing e f later in omega arith)
+        | inr sooner ↦ absurd (let s = chain_rising image.prefix image.code items 0 (length image.code) j i q p listing f e sooner in omega arith)
+      ]
+    ]
+
+sooner_under : (image : Image) (items : List Placed) (labels : Labelling) → HasListing image items → (i : ℕ) (p : Placed) (rule : Rule) → slice_get items i ≡ Some p → IsLeastBroken items labels i rule →
+    (other : Rule) (place : ℕ) → BreaksUnder other items labels place → ((code_base + place < code_base + p.at) ⊎ ((code_base + place ≡ code_base + p.at) × (rule_number other < rule_number rule))) → ⊥
+sooner_under image items labels listing i p rule e least other place u (inl low) =
+    let at = u.3 in least.first other u.0 (comes_before image.prefix image.code items i u.0 p u.1 listing e u.2 (omega arith)) (u.1, u.2, u.4)
+sooner_under image items labels listing i p rule e least other place u (inr same) =
+    let at = u.3 in let there = same.0 in
+    let is = same_place image.prefix image.code image items listing i u.0 p u.1 e u.2 (omega arith) in
+    least.lowest other same.1 (subst (λ j. BadLabel items labels other j) is (u.1, u.2, u.4))
+
+sooner_flow : (image : Image) (items : List Placed) (labels : Labelling) → HasListing image items → MeetsFlow items labels → ((other : Rule) (place : ℕ) → BreaksShape other image items place → ⊥) →
+    (i : ℕ) (p : Placed) (rule : Rule) → slice_get items i ≡ Some p → IsLeastBroken items labels i rule → is_flow_rule rule ≡ true →
+    (other : Rule) (there : ℕ) → IsBefore other there rule (code_base + p.at) → Seen image other there → ⊥
+sooner_flow image items labels listing meets shape i p rule e least flow other there h (seen_break two place here b) =
+    no_break image.prefix image.code b.before items 0 place b.chain listing b.inside b.none
+sooner_flow image items labels listing meets shape i p rule e least flow other there h (seen_shape items' place listing' here b) =
+    shape other place (subst (λ (l : List Placed). BreaksShape other image l place) (one_chain image.prefix image.code items' items 0 listing' listing) b)
+sooner_flow image items labels listing meets shape i p rule e least flow other there h (seen_flow items' place other_flow listing' here b) =
+    let under = subst (λ (l : List Placed). BreaksFlow other l place) (one_chain image.prefix image.code items' items 0 listing' listing) b labels meets in
+    let g = before_flow (is_flow_rule other) (is_flow_rule rule) (rule_number other) there (rule_number rule) (code_base + p.at) other_flow flow h in
+    sooner_under image items labels listing i p rule e least other place under
+    (subst (λ n. (n < code_base + p.at) ⊎ ((n ≡ code_base + p.at) × (rule_number other < rule_number rule))) here g)
+
+not_two : (rule : Rule) → is_flow_rule rule ≡ true → rule ≢ V2
+not_two rule flow two = true≢false (sym flow ∙ ap is_flow_rule two)
+
+every_labelling : (items : List Placed) (labels : Labelling) → ((any : Labelling) → MeetsFlow items any → (i : ℕ) → IsAtMost (labels i) (any i)) → (i : ℕ) (p : Placed) (rule : Rule) → slice_get items i ≡ Some p →
+    item_breaks rule p.item (labels i) ≡ true → BreaksFlow rule items p.at
+every_labelling items labels least i p rule e bad any meets = (i, p, e, refl, item_up rule p.item (labels i) (any i) (least any meets i) bad)
+
+pub told_flow : (image : Image) (items : List Placed) (labels : Labelling) → HasListing image items → MeetsFlow items labels → ((any : Labelling) → MeetsFlow items any → (i : ℕ) → IsAtMost (labels i) (any i)) →
+    ((other : Rule) (place : ℕ) → BreaksShape other image items place → ⊥) →
+    (i : ℕ) (p : Placed) (rule : Rule) → slice_get items i ≡ Some p → IsLeastBroken items labels i rule → IsCodeVerdict image rule (code_base + p.at)
+told_flow image items labels listing meets most shape i p rule e least =
+    let same = some_same least.bad.0 p (sym least.bad.1 ∙ e) in
+    let bad : item_breaks rule p.item (labels i) ≡ true = subst (λ (x : Placed). item_breaks rule x.item (labels i) ≡ true) same least.bad.2 in
+    let flow = item_flow_rule rule p.item (labels i) bad in
+    record {
+      broken = of_listing image rule (code_base + p.at) (not_two rule flow) (items, p.at, listing, refl, inr (flow, every_labelling items labels most i p rule e bad));
+      first = λ other there h c. sooner_flow image items labels listing meets shape i p rule e least flow other there h (see image other there c);
+    }
+
+-- ---- acceptance
+
+pub accepts : (image : Image) (items : List Placed) (labels : Labelling) → HasListing image items → MeetsFlow items labels → ((other : Rule) (place : ℕ) → BreaksShape other image items place → ⊥) →
+    ((rule : Rule) (i : ℕ) → i < length items → BadLabel items labels rule i → ⊥) → IsAcceptedImage image
+accepts image items labels listing meets shape fine = record {
+  items = items;
+  listing = listing;
+  shape = shape;
+  labels = labels;
+  meets = meets;
+  flow = λ rule place u. fine rule u.0 (slice_get_within items u.0 u.1 u.2) (u.1, u.2, u.4);
+}

@@ -1,0 +1,10 @@
+mod Order
+mod One
+mod Chains
+mod Shapes
+mod LabelRules
+mod Told
+mod Steps
+mod Flows
+mod Forms
+mod Ends

@@ -1,0 +1,92 @@
+-- Items by their places, and what the searches over a listing found.
+use Rattle.std.proofs.Common.{◌≡◌, ◌≢◌, ℕ, suc, ◌+◌, ◌-◌, ◌<◌, ◌≤◌, Bool, true, false, List, length, get_or, Option, Some, None, refl, sym, ◌∙◌, ap, subst, arith, slice_get, not}
+use Rattle.std.proofs.lemmas.Bool.{true≢false, not-true, not-false}
+use Rattle.std.proofs.lemmas.Option.{slice_get_within, get_or_from_slice_get, slice_get-get_or}
+use Rattle.cv_word.specs.MemoryMap.{code_base}
+use Rattle.code_sweep.specs.declared.item.Placed.{Placed}
+use Rattle.taint_flow.specs.Flow.{address}
+use Rattle.taint_flow.specs.Places.{NumbersItems}
+use Rattle.conf_verify.specs.Rules.{is_word, is_call_word, FollowsCallWord}
+use Rattle.conf_verify.specs.Search.{BeginsAt, HasTarget, HasWord}
+
+none_some : {A : Type 0} (x : A) → (let o : Option A = None in o) ≡ Some x → ⊥
+none_some x e = cc
+
+some_same : {A : Type 0} (x y : A) → (let o : Option A = Some x in o) ≡ Some y → x ≡ y
+some_same x y e = cc
+
+-- no number at the place: no item begins there
+pub no_number : (items : List Placed) (number : ℕ → Option ℕ) (place : ℕ) → NumbersItems items number → (let o : Option ℕ = None in o) ≡ number place →
+    (j : ℕ) (q : Placed) → slice_get items j ≡ Some q → q.at ≡ place → ⊥
+no_number items number place n e j q stands here = none_some j (e ∙ ap number (sym here) ∙ n.each j q stands)
+
+-- a number at the place: that item begins there, and no other
+pub this_number : (items : List Placed) (number : ℕ → Option ℕ) (place k : ℕ) → NumbersItems items number → (let o : Option ℕ = Some k in o) ≡ number place →
+    (j : ℕ) (q : Placed) → slice_get items j ≡ Some q → q.at ≡ place → j ≡ k
+this_number items number place k n e j q stands here = sym (some_same k j (e ∙ ap number (sym here) ∙ n.each j q stands))
+
+pub found_item : (items : List Placed) (number : ℕ → Option ℕ) (place k : ℕ) (d : Placed) → NumbersItems items number → (let o : Option ℕ = Some k in o) ≡ number place → BeginsAt items (get_or items k d) place
+found_item items number place k d n e =
+    let f = n.only place k (sym e) in
+    let same = get_or_from_slice_get items k f.0 d f.1 in
+    subst (λ (q : Placed). BeginsAt items q place) (sym same) (k, f.1, f.2)
+
+pub only_item : (items : List Placed) (number : ℕ → Option ℕ) (place k : ℕ) (d : Placed) → NumbersItems items number → (let o : Option ℕ = Some k in o) ≡ number place →
+    (j : ℕ) (q : Placed) → slice_get items j ≡ Some q → q.at ≡ place → (let o : Option Placed = Some (get_or items k d) in o) ≡ Some q
+only_item items number place k d n e j q stands here =
+    let same = this_number items number place k n e j q stands here in
+    ap (λ (x : Placed). let o : Option Placed = Some x in o) (get_or_from_slice_get items k q d (ap (λ i. slice_get items i) (sym same) ∙ stands))
+
+pub past_item : (items : List Placed) (number : ℕ → Option ℕ) (place k : ℕ) → NumbersItems items number → (let o : Option ℕ = Some k in o) ≡ number place → length items ≤ k → ⊥
+past_item items number place k n e past =
+    let f = n.only place k (sym e) in
+    let h = slice_get_within items k f.0 f.1 in omega arith
+
+-- ---- the three tests at a place
+
+pub target_yes : (items : List Placed) (q : Placed) (target : ℕ) → code_base ≤ target → BeginsAt items q (target - code_base) → not (is_word q.item) ≡ true → HasTarget items target
+target_yes items q target low b word = (b.0, q, b.1, let h = b.2 in omega arith, not-true (is_word q.item) word)
+
+pub target_no : (items : List Placed) (q : Placed) (target : ℕ) → ((j : ℕ) (x : Placed) → slice_get items j ≡ Some x → x.at ≡ target - code_base → (let o : Option Placed = Some q in o) ≡ Some x) →
+    not (is_word q.item) ≡ false → HasTarget items target → ⊥
+target_no items q target only word h =
+    let same = some_same q h.1 (only h.0 h.1 h.2 (let e = h.3 in omega arith)) in
+    true≢false (sym (ap (λ (x : Placed). is_word x.item) (sym same) ∙ not-false (is_word q.item) word) ∙ h.4)
+
+pub target_none : (items : List Placed) (target : ℕ) → ((j : ℕ) (x : Placed) → slice_get items j ≡ Some x → x.at ≡ target - code_base → (let o : Option Placed = None in o) ≡ Some x) →
+    HasTarget items target → ⊥
+target_none items target only h = none_some h.1 (only h.0 h.1 h.2 (let e = h.3 in omega arith))
+
+pub target_low : (items : List Placed) (target : ℕ) → target < code_base → HasTarget items target → ⊥
+target_low items target low h = let e = h.3 in omega arith
+
+pub word_yes : (items : List Placed) (q : Placed) (place : ℕ) → 2 ≤ place → BeginsAt items q (place - 2) → is_word q.item ≡ true → HasWord items place
+word_yes items q place low b word = (b.0, q, b.1, word, let h = b.2 in omega arith)
+
+pub word_no : (items : List Placed) (q : Placed) (place : ℕ) → ((j : ℕ) (x : Placed) → slice_get items j ≡ Some x → x.at ≡ place - 2 → (let o : Option Placed = Some q in o) ≡ Some x) →
+    is_word q.item ≡ false → HasWord items place → ⊥
+word_no items q place only word h =
+    let same = some_same q h.1 (only h.0 h.1 h.2 (let e = h.4 in omega arith)) in
+    true≢false (sym h.3 ∙ ap (λ (x : Placed). is_word x.item) (sym same) ∙ word)
+
+pub word_none : (items : List Placed) (place : ℕ) → ((j : ℕ) (x : Placed) → slice_get items j ≡ Some x → x.at ≡ place - 2 → (let o : Option Placed = None in o) ≡ Some x) → HasWord items place → ⊥
+word_none items place only h = none_some h.1 (only h.0 h.1 h.2 (let e = h.4 in omega arith))
+
+abbrev pub CallsHaveEight : List Placed → Type 0
+CallsHaveEight items = (i : ℕ) (p : Placed) → slice_get items i ≡ Some p → is_call_word p.item ≡ true → p.len ≡ 8
+
+pub entry_yes : (items : List Placed) (q : Placed) (entry : ℕ) → 8 ≤ entry → CallsHaveEight items → BeginsAt items q (entry - 8) → is_call_word q.item ≡ true → FollowsCallWord items entry
+entry_yes items q entry low eight b call = (b.0, q, b.1, call, let h = b.2 in let e = eight b.0 q b.1 call in omega arith)
+
+pub entry_no : (items : List Placed) (q : Placed) (entry : ℕ) → CallsHaveEight items →
+    ((j : ℕ) (x : Placed) → slice_get items j ≡ Some x → x.at ≡ entry - 8 → (let o : Option Placed = Some q in o) ≡ Some x) → is_call_word q.item ≡ false → FollowsCallWord items entry → ⊥
+entry_no items q entry eight only call h =
+    let same = some_same q h.1 (only h.0 h.1 h.2 (let e = h.4 in let g = eight h.0 h.1 h.2 h.3 in omega arith)) in
+    true≢false (sym h.3 ∙ ap (λ (x : Placed). is_call_word x.item) (sym same) ∙ call)
+
+pub entry_none : (items : List Placed) (entry : ℕ) → CallsHaveEight items →
+    ((j : ℕ) (x : Placed) → slice_get items j ≡ Some x → x.at ≡ entry - 8 → (let o : Option Placed = None in o) ≡ Some x) → FollowsCallWord items entry → ⊥
+entry_none items entry eight only h = none_some h.1 (only h.0 h.1 h.2 (let e = h.4 in let g = eight h.0 h.1 h.2 h.3 in omega arith))
+
+pub entry_low : (items : List Placed) (entry : ℕ) → CallsHaveEight items → entry < 8 → FollowsCallWord items entry → ⊥
+entry_low items entry eight low h = let e = h.4 in let g = eight h.0 h.1 h.2 h.3 in omega arith

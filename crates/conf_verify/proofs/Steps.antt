@@ -1,0 +1,243 @@
+-- From what each search over a listing found to the verdict on the code, rule by rule.
+use Rattle.std.proofs.Common.{◌≡◌, ◌≢◌, ℕ, zero, suc, ◌+◌, ◌-◌, ◌<◌, ◌≤◌, Bool, true, false, List, [], ◌∷◌, length, take, drop, get_or, slice_index, Option, Some, None, refl, sym, ◌∙◌, ap, subst, arith, ◌⊎◌, inl, inr, slice_get}
+use Rattle.std.proofs.lemmas.Bool.{cases_order, cases_lt, cases_Bool, true≢false}
+use Rattle.std.proofs.lemmas.List.{drop_all}
+use Rattle.std.proofs.lemmas.Option.{slice_get_within}
+use Rattle.cv_word.specs.MemoryMap.{code_base}
+use Rattle.x64_decode.specs.declared.instr.Instr.{Instr}
+use Rattle.x64_decode.specs.declared.instr.Instr.TheVariants as instr
+use Rattle.magic_words.specs.MagicWords.{IsOccurrence, AreOccurrences}
+use Rattle.code_sweep.specs.declared.item.Item.{Item}
+use Rattle.code_sweep.specs.declared.item.Item.TheVariants.{Call, Ret, Plain, ReturnUnit, CallUnit}
+use Rattle.code_sweep.specs.declared.item.Placed.{Placed}
+use Rattle.code_sweep.specs.Listing.{IsChain}
+use Rattle.taint_flow.specs.Label.{Label, IsAtMost}
+use Rattle.taint_flow.specs.Flow.{address, jump_target, Labelling, MeetsFlow, falls_through}
+use Rattle.taint_flow.specs.Places.{goes_on, NextStands}
+use Rattle.image_form.specs.Image.{Image, IsGood}
+use Rattle.conf_verify.specs.declared.rule.Rule.{Rule}
+use Rattle.conf_verify.specs.declared.rule.Rule.TheVariants.{V1, V2, V3, V4, V5, V6, V7, V8, V9, V10, V11, V12, V13, V14, V15, V16}
+use Rattle.conf_verify.specs.Rules.{BreaksShape, BreaksFlow, BreaksUnder, BreaksEnds, BreaksPrefix, BreaksJumps, BreaksEntries, FollowsCallWord, IsGoodTarget, IsLast, procedure_of, is_word, is_call_word, may_end, is_flow_rule, rule_number}
+use Rattle.conf_verify.specs.Search.{BadEnd, BadJump, BadOccurrence, HasTarget, HasWord}
+use Rattle.conf_verify.specs.Verdict.{HasListing}
+use Rattle.conf_verify.specs.Steps.{IsCodeVerdict, HoldsBelow}
+use Rattle.conf_verify.proofs.Order.{same_number}
+use Rattle.conf_verify.proofs.Chains.{chain_rising, one_procedure}
+use Rattle.conf_verify.proofs.Told.{told_shape}
+
+some_same : {A : Type 0} (x y : A) → (let o : Option A = Some x in o) ≡ Some y → x ≡ y
+some_same x y e = cc
+
+none_some : {A : Type 0} (x : A) → (let o : Option A = None in o) ≡ Some x → ⊥
+none_some x e = cc
+
+-- an item at a lower place comes before
+pub comes_before : (prefix code : List ℕ) (items : List Placed) (i j : ℕ) (p q : Placed) → IsChain prefix code items 0 (length code) → slice_get items i ≡ Some p → slice_get items j ≡ Some q →
+    q.at < p.at → j < i
+comes_before prefix code items i j p q chain e f low =
+    elim (cases_order i j) [
+      | inl same ↦ absurd (let s = ap (λ (x : Placed). x.at) (some_same p q (sym e ∙ ap (λ k. slice_get items k) same ∙ f)) in omega arith)
+      | inr h ↦ elim h [ inl later ↦ absurd (let s = chain_rising prefix code items 0 (length code) i j p q chain e f later in omega arith) | inr before ↦ before ]
+    ]
+
+-- the first bad item is at the least bad place
+least_place : (prefix code : List ℕ) (items : List Placed) (Bad : ℕ → Type 0) (i : ℕ) (p : Placed) → IsChain prefix code items 0 (length code) → slice_get items i ≡ Some p →
+    ((j : ℕ) → j < i → Bad j → ⊥) → (j : ℕ) (q : Placed) → slice_get items j ≡ Some q → q.at < p.at → Bad j → ⊥
+least_place prefix code items Bad i p chain e first j q f low bad = first j (comes_before prefix code items i j p q chain e f low) bad
+
+-- ---- which rules hold so far
+
+some_number : (rule : Rule) → 0 < rule_number rule
+some_number V1 = omega arith
+some_number V2 = omega arith
+some_number V3 = omega arith
+some_number V4 = omega arith
+some_number V5 = omega arith
+some_number V6 = omega arith
+some_number V7 = omega arith
+some_number V8 = omega arith
+some_number V9 = omega arith
+some_number V10 = omega arith
+some_number V11 = omega arith
+some_number V12 = omega arith
+some_number V13 = omega arith
+some_number V14 = omega arith
+some_number V15 = omega arith
+some_number V16 = omega arith
+
+more_holds : (image : Image) (items : List Placed) (r : Rule) (n : ℕ) → rule_number r ≡ n → HoldsBelow image items n → ((place : ℕ) → BreaksShape r image items place → ⊥) → HoldsBelow image items (suc n)
+more_holds image items r n is below none rule place low b =
+    elim (cases_order (rule_number rule) n) [
+      | inl same ↦ none place (subst (λ (x : Rule). BreaksShape x image items place) (same_number rule r (same ∙ sym is)) b)
+      | inr h ↦ elim h [ inl lower ↦ below rule place lower b | inr higher ↦ omega arith ]
+    ]
+
+none_below : (image : Image) (items : List Placed) → HoldsBelow image items 1
+none_below image items rule place low b = let some = some_number rule in omega arith
+
+holds_three : (image : Image) (items : List Placed) → HoldsBelow image items 3
+holds_three image items = more_holds image items V2 2 refl (more_holds image items V1 1 refl (none_below image items) (λ place b. b)) (λ place b. b)
+
+pub holds_four : (image : Image) (items : List Placed) → ((place : ℕ) → BreaksEnds items place → ⊥) → HoldsBelow image items 4
+holds_four image items none = more_holds image items V3 3 refl (holds_three image items) none
+
+pub holds_six : (image : Image) (items : List Placed) → HoldsBelow image items 4 → ((place : ℕ) → BreaksPrefix image.prefix image.code items place → ⊥) → HoldsBelow image items 6
+holds_six image items below none = more_holds image items V5 5 refl (more_holds image items V4 4 refl below none) (λ place b. b)
+
+pub holds_nine : (image : Image) (items : List Placed) → HoldsBelow image items 6 → ((place : ℕ) → BreaksJumps items place → ⊥) → HoldsBelow image items 9
+holds_nine image items below none =
+    more_holds image items V8 8 refl (more_holds image items V7 7 refl (more_holds image items V6 6 refl below none) (λ place b. b)) (λ place b. b)
+
+-- a rule with another number isn't a rule on shapes
+number_of_last : (rule : Rule) → 9 < rule_number rule → (image : Image) (items : List Placed) (place : ℕ) → BreaksShape rule image items place → ⊥
+number_of_last V1 h image items place b = b
+number_of_last V2 h image items place b = b
+number_of_last V3 h image items place b = omega arith
+number_of_last V4 h image items place b = omega arith
+number_of_last V5 h image items place b = b
+number_of_last V6 h image items place b = omega arith
+number_of_last V7 h image items place b = b
+number_of_last V8 h image items place b = b
+number_of_last V9 h image items place b = omega arith
+number_of_last V10 h image items place b = b
+number_of_last V11 h image items place b = b
+number_of_last V12 h image items place b = b
+number_of_last V13 h image items place b = b
+number_of_last V14 h image items place b = b
+number_of_last V15 h image items place b = b
+number_of_last V16 h image items place b = b
+
+pub holds_all : (image : Image) (items : List Placed) → HoldsBelow image items 9 → ((place : ℕ) → BreaksEntries image.entries items place → ⊥) → (rule : Rule) (place : ℕ) → BreaksShape rule image items place → ⊥
+holds_all image items below none rule place b =
+    let ten = more_holds image items V9 9 refl below none in
+    elim (cases_order (rule_number rule) 9) [
+      | inl same ↦ ten rule place (omega arith) b
+      | inr h ↦ elim h [ inl lower ↦ ten rule place (omega arith) b | inr higher ↦ number_of_last rule higher image items place b ]
+    ]
+
+-- ---- V3
+
+pub told_ends : (image : Image) (items : List Placed) (i : ℕ) (p : Placed) → HasListing image items → slice_get items i ≡ Some p → BadEnd items i → ((j : ℕ) → j < i → BadEnd items j → ⊥) →
+    IsCodeVerdict image V3 (code_base + p.at)
+told_ends image items i p listing e bad first =
+    let same = some_same bad.0 p (sym bad.1 ∙ e) in
+    told_shape image items listing V3 p.at refl
+    (i, p, e, refl, subst (λ (x : Placed). ((i ≡ 0) × (is_call_word x.item ≡ false)) ⊎ (IsLast items i × (may_end x.item ≡ false))) same bad.2)
+    (λ place low b. let at = b.3 in
+    least_place image.prefix image.code items (BadEnd items) i p listing e first b.0 b.1 b.2 (omega arith) (b.1, b.2, b.4))
+    (holds_three image items)
+
+pub no_ends : (items : List Placed) → ((j : ℕ) → j < length items → BadEnd items j → ⊥) → (place : ℕ) → BreaksEnds items place → ⊥
+no_ends items none place b = none b.0 (slice_get_within items b.0 b.1 b.2) (b.1, b.2, b.4)
+
+-- the first item is a call word
+pub first_is_call : (image : Image) (items : List Placed) → IsGood image → HasListing image items → HoldsBelow image items 4 → (first : Placed) × (slice_get items 0 ≡ Some first) × (is_call_word first.item ≡ true)
+first_is_call image [] good listing below = absurd (let h = good.code in let some = h.0 in let empty = listing in omega arith)
+first_is_call image (p ∷ ps) good listing below =
+    elim (cases_Bool (is_call_word p.item)) [
+      | inl is ↦ (p, refl, is)
+      | inr isnt ↦ absurd (below V3 p.at (omega arith) (0, p, refl, refl, inl (refl, isnt)))
+    ]
+
+-- an item that may end a procedure leads to none behind it
+falls_on : (item : Item) → goes_on item ≡ true → may_end item ≡ false
+falls_on (Call bits) e = refl
+falls_on (Ret bit) e = refl
+falls_on (ReturnUnit bit) e = absurd (true≢false (sym e))
+falls_on (CallUnit r bits) e = refl
+falls_on (Plain (instr.Jmp rel)) e = absurd (true≢false (sym e))
+falls_on (Plain instr.Ud2) e = absurd (true≢false (sym e))
+falls_on (Plain _) e = refl
+
+pub next_stands : (image : Image) (items : List Placed) → HoldsBelow image items 4 → NextStands items
+next_stands image items below i p e on =
+    let inside = slice_get_within items i p e in
+    elim (cases_order (suc i) (length items)) [
+      | inl last ↦ absurd (below V3 p.at (omega arith) (i, p, e, refl, inr (inl last, falls_on p.item on)))
+      | inr h ↦ elim h [ inl low ↦ low | inr past ↦ omega arith ]
+    ]
+
+-- ---- V4
+
+take_none : (n : ℕ) → length (let l : List ℕ = take n [] in l) ≡ 0
+take_none zero = refl
+take_none (suc n) = refl
+
+occurs_inside : (prefix code : List ℕ) (place : ℕ) → length prefix ≡ 6 → IsOccurrence prefix code place → place < length code
+occurs_inside prefix code place six o =
+    elim (cases_lt place (length code)) [
+      | inl inside ↦ inside
+      | inr past ↦ absurd (let empty = ap (λ (l : List ℕ). length (take (length prefix) l)) (drop_all place code past) in let long = ap length o in let none = take_none (length prefix) in omega arith)
+    ]
+
+place_before : (prefix code : List ℕ) (places : List ℕ) (j k : ℕ) → AreOccurrences prefix code (length code) places → j < length places → slice_index places j < slice_index places k → j < k
+place_before prefix code places j k are inside low =
+    elim (cases_order k j) [
+      | inl same ↦ absurd (let s = ap (λ i. slice_index places i) same in omega arith)
+      | inr h ↦ elim h [ inl before ↦ absurd (let s = are.rising k j before inside in omega arith) | inr later ↦ later ]
+    ]
+
+pub told_prefix : (image : Image) (items : List Placed) (places : List ℕ) (k : ℕ) → IsGood image → HasListing image items → AreOccurrences image.prefix image.code (length image.code) places → k < length places →
+    BadOccurrence items places k → ((j : ℕ) → j < k → BadOccurrence items places j → ⊥) → HoldsBelow image items 4 → IsCodeVerdict image V4 (code_base + slice_index places k)
+told_prefix image items places k good listing are inside bad first below =
+    told_shape image items listing V4 (slice_index places k) refl
+    ((are.each k inside).1, λ i p e word at. bad (i, p, e, word, at))
+    (λ place low b.
+    let found = are.all place (occurs_inside image.prefix image.code place good.prefix_len b.0) b.0 in
+    let same = found.2 in
+    first found.0 (place_before image.prefix image.code places found.0 k are found.1 (omega arith))
+    (λ word. b.1 word.0 word.1 word.2 word.3 (word.4 ∙ found.2)))
+    below
+
+pub no_prefix : (image : Image) (items : List Placed) (places : List ℕ) → IsGood image → AreOccurrences image.prefix image.code (length image.code) places → ((k : ℕ) → k < length places → BadOccurrence items places k → ⊥) →
+    (place : ℕ) → BreaksPrefix image.prefix image.code items place → ⊥
+no_prefix image items places good are none place b =
+    let found = are.all place (occurs_inside image.prefix image.code place good.prefix_len b.0) b.0 in
+    none found.0 found.1 (λ word. b.1 word.0 word.1 word.2 word.3 (word.4 ∙ found.2))
+
+-- ---- V6
+
+-- there is one procedure: a target that is an item and no word is a good one
+good_target : (image : Image) (items : List Placed) → IsGood image → HasListing image items → HoldsBelow image items 4 → (i : ℕ) (p : Placed) (target : ℕ) → slice_get items i ≡ Some p → HasTarget items target → IsGoodTarget items i target
+good_target image items good listing below i p target e h =
+    let f = first_is_call image items good listing below in
+    let one : (j : ℕ) (q : Placed) → slice_get items j ≡ Some q → procedure_of items j ≡ 1 = λ j q g. one_procedure image.prefix image.code items (length image.code) j q f.0 listing f.1 f.2 g in
+    (h.0, h.1, h.2, h.3, h.4, one h.0 h.1 h.2 ∙ sym (one i p e))
+
+is_bad : (image : Image) (items : List Placed) → IsGood image → HasListing image items → HoldsBelow image items 4 → (place : ℕ) (b : BreaksJumps items place) → BadJump items b.0
+is_bad image items good listing below place b = (b.1, b.2, b.3, b.5, λ h. b.6 (good_target image items good listing below b.0 b.1 b.2 b.3 h))
+
+pub holds_lower : (image : Image) (items : List Placed) → HoldsBelow image items 6 → HoldsBelow image items 4
+holds_lower image items below rule place low b = below rule place (omega arith) b
+
+pub told_jumps : (image : Image) (items : List Placed) (i : ℕ) (p : Placed) → IsGood image → HasListing image items → slice_get items i ≡ Some p → BadJump items i → ((j : ℕ) → j < i → BadJump items j → ⊥) →
+    HoldsBelow image items 6 → IsCodeVerdict image V6 (code_base + p.at)
+told_jumps image items i p good listing e bad first below =
+    let same = some_same bad.0 p (sym bad.2 ∙ e) in
+    told_shape image items listing V6 p.at refl
+    (i, p, bad.1, e, refl, subst (λ (x : Placed). jump_target x ≡ Some bad.1) same bad.3, λ h. bad.4 (h.0, h.1, h.2, h.3, h.4))
+    (λ place low b. let at = b.4 in
+    least_place image.prefix image.code items (BadJump items) i p listing e first b.0 b.1 b.3 (omega arith)
+    (is_bad image items good listing (holds_lower image items below) place b))
+    below
+
+pub no_jumps : (image : Image) (items : List Placed) → IsGood image → HasListing image items → HoldsBelow image items 4 → ((j : ℕ) → j < length items → BadJump items j → ⊥) → (place : ℕ) → BreaksJumps items place → ⊥
+no_jumps image items good listing below none place b = none b.0 (slice_get_within items b.0 b.1 b.3) (is_bad image items good listing below place b)
+
+-- ---- V9
+
+-- of one entry there is the first alone
+one_only : (entries : List ℕ) (n entry other : ℕ) → length entries ≡ 1 → slice_get entries 0 ≡ Some entry → slice_get entries n ≡ Some other → entry ≡ other
+one_only entries zero entry other one e f = some_same entry other (sym e ∙ f)
+one_only entries (suc n) entry other one e f = absurd (let h = slice_get_within entries (suc n) other f in omega arith)
+
+pub told_entry : (image : Image) (items : List Placed) (entry : ℕ) → HasListing image items → length image.entries ≡ 1 → slice_get image.entries 0 ≡ Some entry → (FollowsCallWord items entry → ⊥) →
+    HoldsBelow image items 9 → IsCodeVerdict image V9 (code_base + entry)
+told_entry image items entry listing one e not below =
+    told_shape image items listing V9 entry refl (0, entry, e, refl, not)
+    (λ place low b. let same = one_only image.entries b.0 entry b.1 one e b.2 in let at = b.3 in omega arith)
+    below
+
+pub no_entry : (image : Image) (items : List Placed) (entry : ℕ) → length image.entries ≡ 1 → slice_get image.entries 0 ≡ Some entry → FollowsCallWord items entry → (place : ℕ) → BreaksEntries image.entries items place → ⊥
+no_entry image items entry one e follows place b =
+    b.4 (subst (λ n. FollowsCallWord items n) (one_only image.entries b.0 entry b.1 one e b.2 ∙ b.3) follows)

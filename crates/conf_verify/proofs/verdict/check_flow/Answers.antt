@@ -1,0 +1,31 @@
+use Rattle.std.proofs.Common.{◌≡◌, ℕ, length, List, ◌<◌, ◌≤◌, ◌-◌, arith, refl, sym, ◌∙◌, subst, ap, get_or, slice_index, Bool, true, false}
+use Rattle.image_form.specs.Image.{Image}
+use Rattle.code_sweep.specs.declared.item.Placed.{Placed}
+use Rattle.conf_verify.specs.Answer.{image_of}
+use Rattle.conf_verify.specs.Verdict.{HasListing}
+use Rattle.conf_verify.specs.Steps.{HoldsBelow}
+use Rattle.taint_flow.specs.Places.{StandInOrder}
+use Rattle.taint_flow.proofs.Chain.{order_from_listing}
+use Rattle.conf_verify.proofs.Steps.{next_stands}
+use Rattle.conf_verify.proofs.Ends.{refusal, flow_at, flow_none}
+use Rattle.conf_verify.proofs.verdict.check_flow.Goals as goal
+
+pub label_code-requires-clause-order : goal.label_code-requires-clause-order
+label_code-requires-clause-order c =
+    subst (λ (l : List ℕ). StandInOrder c.args.listing.now.items.items l) (sym c.requires.code)
+    (order_from_listing c.args.parts.now.prefix c.args.parts.now.code.now c.args.listing.now.items.items c.requires.listing)
+
+pub label_code-requires-clause-next : goal.label_code-requires-clause-next
+label_code-requires-clause-next c =
+    next_stands (image_of c.args.parts.now) c.args.listing.now.items.items (λ rule place low b. c.requires.shape rule place b)
+
+pub returns-in-Some-clause-refused : goal.returns-in-Some-clause-refused
+returns-in-Some-clause-refused c =
+    refusal (image_of c.args.parts.now) c.refused.result c.in-Some.rule _ c.refused.ensures
+    (flow_at (image_of c.args.parts.now) c.args.listing.now.items.items c.as_slice-items.result.now c.in_ok-labels.labels c.in-Some.i _ c.in-Some.rule c.as_slice-items.ensures.value
+    c.requires.listing c.in_ok-labels.ensures.meets c.in_ok-labels.ensures.least c.requires.shape c.in-Some.ensures)
+
+pub returns-clause-holds : goal.returns-clause-holds
+returns-clause-holds c =
+    flow_none (image_of c.args.parts.now) c.args.listing.now.items.items c.as_slice-items.result.now c.in_ok-labels.labels c.as_slice-items.ensures.value
+    c.requires.listing c.in_ok-labels.ensures.meets c.requires.shape c.in-None.ensures

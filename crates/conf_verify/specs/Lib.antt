@@ -1,0 +1,22 @@
+-- The rules, and the verdict on the bytes of an image.
+pub use Rattle.cv_word.specs.Words
+pub use Rattle.cv_word.specs.MemoryMap
+pub use Rattle.cv_word.specs.Arithmetic
+pub use Rattle.x64_decode.specs.Spelling
+pub use Rattle.x64_decode.specs.Reading
+pub use Rattle.magic_words.specs.MagicWords
+pub use Rattle.code_sweep.specs.Units
+pub use Rattle.code_sweep.specs.Listing
+pub use Rattle.code_sweep.specs.Sweep
+pub use Rattle.taint_flow.specs.Label
+pub use Rattle.taint_flow.specs.Flow
+pub use Rattle.taint_flow.specs.Bits
+pub use Rattle.taint_flow.specs.Places
+pub use Rattle.image_form.specs.Image
+pub use Rattle.image_form.specs.Table
+pub use Rattle.image_form.specs.View
+pub mod Rules
+pub mod Verdict
+pub mod Answer
+pub mod Search
+pub mod Steps

@@ -1,0 +1,17 @@
+//! The verdict on the bytes of an image: accepted, or the rule that is broken and where.
+//!
+//! `verify` answers exactly the verdict. What it accepts is a `Verified`, which can be made here alone and
+//! keeps in its type that its image is accepted.
+#![tactic(auto)]
+
+mod law;
+mod rule;
+mod shape;
+mod taint;
+#[cfg(test)]
+mod tests;
+mod verdict;
+
+pub use law::one_verdict;
+pub use rule::Rule;
+pub use verdict::{Counts, Verified, VerifyError, verify};

@@ -1,0 +1,264 @@
+//! Verdicts by hand: small codes, an image with each bit turned, and one cut to each length.
+
+use super::*;
+use cv_word::NoMemory;
+use std::alloc::Global;
+use std::test::Fail;
+
+/// An image whose code is a call word and an undefined instruction.
+const SMALL: [u8; 54] = [
+    0x43, 0x46, 0x56, 0x49, 0x01, 0x01, 0x00, 0x00, 0xa1, 0xa2, 0xa3, 0xa4, 0xa5, 0xa6, 0x00, 0x00,
+    0x00, 0x00, 0x01, 0x00, 0x00, 0x10, 0x00, 0x00, 0x0a, 0x00, 0x00, 0x00, 0x00, 0x00, 0x00, 0x00,
+    0x00, 0x00, 0x00, 0x00, 0x00, 0x00, 0x00, 0x00, 0x08, 0x00, 0x00, 0x00, 0x0f, 0x11, 0xa1, 0xa2,
+    0xa3, 0xa4, 0xa5, 0xa6, 0x0f, 0x0b,
+];
+
+/// Stands for acceptance.
+const NONE: u64 = u64::MAX;
+
+/// What the small image cut to each length breaks: V1 at this place.
+const CUT: [u64; 55] = [
+    0, 0, 0, 0, 4, 5, 6, 6, 8, 8, 8, 8, 8, 8, 14, 14, 16, 16, 16, 16, 20, 20, 20, 20, 24, 24, 24,
+    24, 24, 24, 24, 24, 24, 24, 24, 24, 24, 24, 24, 24, 24, 24, 24, 24, 24, 24, 24, 24, 24, 24, 24,
+    24, 24, 24, NONE,
+];
+
+/// What the small image with all bits of one byte turned breaks: V1 below address 256, then V9 from
+/// there up, and V2 at 0x10000 and 0x10008.
+const TURNED: [u64; 54] = [
+    0,
+    0,
+    0,
+    0,
+    4,
+    5,
+    6,
+    6,
+    0x10000,
+    0x10000,
+    0x10000,
+    0x10000,
+    0x10000,
+    0x10000,
+    14,
+    14,
+    16,
+    16,
+    NONE,
+    16,
+    20,
+    NONE,
+    20,
+    20,
+    24,
+    24,
+    24,
+    24,
+    28,
+    28,
+    28,
+    28,
+    32,
+    32,
+    32,
+    32,
+    36,
+    36,
+    36,
+    36,
+    0x100f7,
+    0x1ff08,
+    0x100_0008,
+    0xff01_0008,
+    0x10000,
+    0x10000,
+    0x10000,
+    0x10000,
+    0x10000,
+    0x10000,
+    0x10000,
+    0x10000,
+    0x10008,
+    0x10008,
+];
+
+/// An image with one entry at 8, this prefix and this code of at most 255 bytes.
+fn image(alloc: Global, prefix: &[u8; 6], code: &[u8]) -> Result<Vec<u8>, NoMemory> {
+    let mut bytes = Vec::new(alloc);
+    bytes.extend_from_slice(&SMALL[..8])?;
+    bytes.extend_from_slice(prefix)?;
+    bytes.extend_from_slice(&SMALL[14..24])?;
+    bytes.push((code.len() % 256) as u8)?;
+    bytes.extend_from_slice(&SMALL[25..44])?;
+    bytes.extend_from_slice(code)?;
+    Ok(bytes)
+}
+
+/// A code under the prefix of the small image, and what it breaks.
+const CODES: [(&[u8], Option<Rule>, u64); 17] = [
+    (
+        b"\x0f\x11\xa1\xa2\xa3\xa4\xa5\xa6\x90\x0f\x11\xa1\xa2\xa3\xa4\xa5\xa6\x0f\x0b",
+        Some(Rule::V2),
+        0x10009,
+    ),
+    (
+        b"\x0f\x11\xa1\xa2\xa3\xa4\xa5\xa6\xe8\x00\x00\x00\x00\x0f\x0b",
+        Some(Rule::V2),
+        0x10008,
+    ),
+    (
+        b"\x0f\x11\xa1\xa2\xa3\xa4\xa5\xa6\xc3",
+        Some(Rule::V2),
+        0x10008,
+    ),
+    (b"\x0f\x0b", Some(Rule::V3), 0x10000),
+    (b"\x0f\x11\xa1\xa2\xa3\xa4\xa5\xa6", Some(Rule::V3), 0x10000),
+    (
+        b"\x0f\x11\xa1\xa2\xa3\xa4\xa5\xa6\x90",
+        Some(Rule::V3),
+        0x10008,
+    ),
+    (b"\x90\x0f\x0b", Some(Rule::V3), 0x10000),
+    (
+        b"\x0f\x11\xa1\xa2\xa3\xa4\xa5\xa6\xeb\x00",
+        Some(Rule::V2),
+        0x10008,
+    ),
+    (
+        b"\x0f\x11\xa1\xa2\xa3\xa4\xa5\xa6\xe9\x01\x00\x00\x00\x90\x0f\x0b",
+        None,
+        0,
+    ),
+    (
+        b"\x0f\x11\xa1\xa2\xa3\xa4\xa5\xa6\xe9\xfc\xff\xff\xff\x0f\x0b",
+        Some(Rule::V6),
+        0x10008,
+    ),
+    (
+        b"\x0f\x11\xa1\xa2\xa3\xa4\xa5\xa6\xe9\xf3\xff\xff\xff\x0f\x0b",
+        Some(Rule::V6),
+        0x10008,
+    ),
+    (
+        b"\x0f\x11\xa1\xa2\xa3\xa4\xa5\xa6\x90\xe9\x00\x00\x00\x00",
+        Some(Rule::V6),
+        0x10009,
+    ),
+    (
+        b"\x0f\x11\xa1\xa2\xa3\xa4\xa5\xa6\x0f\x84\x0a\x00\x00\x00\x0f\x0b",
+        Some(Rule::V6),
+        0x10008,
+    ),
+    (
+        b"\x0f\x11\xa1\xa2\xa3\xa4\xa5\xa6\x40\xb8\x00\x00\x00\x00\x48\x81\xf8\x00\x00\x00\x00\x0f\x84\x08\x00\x00\x00\x48\x89\xf8\xe9\xeb\xff\xff\xff\x0f\x0b",
+        Some(Rule::V12),
+        0x10015,
+    ),
+    (
+        b"\x0f\x11\xa1\xa2\xa3\xa4\xa5\xa6\x41\xb8\x00\x10\x00\x00\x65\x67\x49\x8b\x80\x00\x00\x00\x00\x64\x67\x49\x89\x80\x00\x00\x00\x00\x0f\x0b",
+        Some(Rule::V11),
+        0x10017,
+    ),
+    (
+        b"\x0f\x11\xa1\xa2\xa3\xa4\xa5\xa6\x41\xb8\x00\x10\x00\x00\x64\x67\x49\x8b\x80\x00\x00\x00\x00\x65\x67\x49\x89\x80\x00\x00\x00\x00\x0f\x0b",
+        None,
+        0,
+    ),
+    (
+        b"\x0f\x11\xa1\xa2\xa3\xa4\xa5\xa6\x48\xb8\x00\x00\x00\x00\x00\x00\x00\x80\x48\x99\x48\xf7\xf9\x0f\x0b",
+        Some(Rule::V13),
+        0x10014,
+    ),
+];
+
+fn told(alloc: Global, bytes: &[u8]) -> Result<(Option<Rule>, u64), NoMemory> {
+    match verify(alloc, bytes) {
+        Ok(_) => Ok((None, 0)),
+        Err(VerifyError::Refused { rule, at }) => Ok((Some(rule), at)),
+        Err(VerifyError::NoMemory) => Err(NoMemory),
+    }
+}
+
+/// With ample memory the small image is accepted.
+#[test]
+fn accepts_a_small_image(rt: HostRuntime) {
+    let Ok(verified) = verify(rt.alloc(), &SMALL) else {
+        assert!(rt; false);
+        return;
+    };
+    assert_eq!(rt;
+        verified.counts(),
+        Counts {
+            procedures: 1,
+            items: 1
+        }
+    );
+    assert_eq!(rt; verified.parts().code.len(), 10);
+}
+
+#[test]
+fn tells_the_form_of_a_cut_image(rt: HostRuntime) {
+    for n in 0..SMALL.len() {
+        assert_eq!(rt; told(rt.alloc(), &SMALL[..n]), Ok((Some(Rule::V1), CUT[n])));
+    }
+    let mut long = Vec::new(rt.alloc());
+    assert_eq!(rt; long.extend_from_slice(&SMALL), Ok(()));
+    assert_eq!(rt; long.extend_from_slice(&[0]), Ok(()));
+    assert_eq!(rt; told(rt.alloc(), long.as_slice()), Ok((Some(Rule::V1), 54)));
+}
+
+/// The rule of an entry of `TURNED`.
+fn rule_of(at: u64) -> Option<Rule> {
+    if at == NONE {
+        None
+    } else if at < 256 {
+        Some(Rule::V1)
+    } else if at == 0x10000 || at == 0x10008 {
+        Some(Rule::V2)
+    } else {
+        Some(Rule::V9)
+    }
+}
+
+#[test]
+fn tells_a_turned_byte(rt: HostRuntime) {
+    for place in 0..SMALL.len() {
+        let mut bytes = SMALL;
+        bytes[place] ^= 0xff;
+        let at = TURNED[place];
+        let wanted = (rule_of(at), if at == NONE { 0 } else { at });
+        assert_eq!(rt; told(rt.alloc(), &bytes), Ok(wanted));
+    }
+}
+
+#[test]
+fn tells_the_rule_of_a_code(rt: HostRuntime) {
+    let prefix = [0xa1, 0xa2, 0xa3, 0xa4, 0xa5, 0xa6];
+    for (code, rule, at) in CODES {
+        match image(rt.alloc(), &prefix, code) {
+            Ok(bytes) => assert_eq!(rt; told(rt.alloc(), bytes.as_slice()), Ok((rule, at))),
+            Err(NoMemory) => assert!(rt; false),
+        }
+    }
+}
+
+/// The second of two occurrences that overlap is not that of the word.
+#[test]
+fn tells_an_occurrence_that_overlaps(rt: HostRuntime) {
+    let code = b"\x0f\x11\x90\x90\x90\x90\x90\x90\x90\x0f\x0b";
+    match image(rt.alloc(), &[0x90; 6], code) {
+        Ok(bytes) => assert_eq!(rt;
+            told(rt.alloc(), bytes.as_slice()),
+            Ok((Some(Rule::V4), 0x10003))
+        ),
+        Err(NoMemory) => assert!(rt; false),
+    }
+}
+
+/// So far an image has one entry.
+#[test]
+fn tells_a_second_entry(rt: HostRuntime) {
+    let mut bytes = SMALL;
+    bytes[5] = 2;
+    assert_eq!(rt; told(rt.alloc(), &bytes), Ok((Some(Rule::V1), 5)));
+}

@@ -1,0 +1,284 @@
+//! What is accepted, and what is refused.
+
+ghost use Rattle.std.specs.Prelude.{◌≡◌, ◌+◌, ℕ, length, OnOk, IfOk, IfErr};
+ghost use Rattle.cv_word.specs.MemoryMap.{code_base};
+ghost use Rattle.taint_flow.specs.Places.{NumbersItems, number_at};
+ghost use Rattle.conf_verify.specs.declared.rule.Rule.{Rule};
+ghost use Rattle.conf_verify.specs.declared.rule.Rule.TheVariants.{V1};
+ghost use Rattle.conf_verify.specs.declared.verdict.VerifyError.TheVariants.{NoMemory, Refused};
+ghost use Rattle.conf_verify.specs.Rules.{BreaksShape};
+ghost use Rattle.conf_verify.specs.Steps.{IsCodeRefusal, HoldsBelow};
+ghost use Rattle.image_form.specs.Image.{IsGood};
+ghost use Rattle.conf_verify.specs.Verdict.{IsImage, IsAccepted, IsAcceptedImage, HasListing};
+ghost use Rattle.conf_verify.specs.Answer.{Checked, image_of, checked_of, HasCounts, IsRefusal};
+
+use crate::rule::Rule;
+use crate::shape::{CODE_BASE, bad_end, bad_jump, bad_occurrence, follows_call_word};
+use crate::taint::bad_label;
+use code_sweep::{Listing, SweepError, sweep};
+use cv_word::NoMemory;
+use image_form::{Parts, read_image};
+use magic_words::occurrences;
+use std::alloc::Global;
+use std::marker::Model;
+use taint_flow::{ItemNumbers, item_numbers, label_code};
+
+/// The place in a file of the number of entries.
+const ENTRY_COUNT: u32 = 5;
+
+/// How many procedures a code has, and how many items that are no words.
+#[derive(Clone, Copy, Debug, PartialEq, Eq)]
+pub struct Counts {
+    pub procedures: u32,
+    pub items: u32,
+}
+
+/// An image that is accepted. Its parts are slices of the bytes that were verified.
+#[derive(Debug, Drop)]
+pub struct Verified<'a> {
+    parts: Parts<'a>,
+    counts: Counts,
+}
+
+impl<'a> Model for Verified<'a> {
+    ghost Value = { Checked };
+
+    ghost view = { λ v. checked_of v.parts v.counts.procedures v.counts.items };
+
+    ghost invariant = { λ v. IsGood (image_of v.parts) × IsAcceptedImage (image_of v.parts) };
+}
+
+impl<'a> Verified<'a> {
+    /// The parts of the image.
+    pub fn parts(&self) -> &Parts<'a>
+        ensures parts { image_of result.now ≡ self.now.image }
+        ensures good { IsGood self.now.image }
+        ensures accepted { IsAcceptedImage self.now.image }
+    {
+        &self.parts
+    }
+
+    /// How many procedures and items the image has.
+    pub fn counts(&self) -> Counts
+        ensures procedures { result.procedures ≡ self.now.procedures }
+        ensures items { result.items ≡ self.now.items }
+    {
+        self.counts
+    }
+}
+
+/// Why bytes were not accepted.
+#[derive(Clone, Copy, Debug, PartialEq, Eq)]
+pub enum VerifyError {
+    /// Memory was refused.
+    NoMemory,
+    /// The verdict: a rule and where it is broken, for V1 a place in the file, else a flat address.
+    Refused { rule: Rule, at: u64 },
+}
+
+impl From<NoMemory> for VerifyError {
+    ghost from_gives = { λ _ e. e ≡ NoMemory };
+
+    fn from(_e: NoMemory) -> VerifyError {
+        VerifyError::NoMemory
+    }
+}
+
+/// The verdict on the bytes of an image, whatever made them.
+pub fn verify<'a>(alloc: Global, bytes: &'a [u8]) -> Result<Verified<'a>, VerifyError>
+    // What is answered is the bytes' image, and they are accepted.
+    ensures image { IfOk result (λ v. IsImage bytes.now v.image) }
+    ensures accepted { IfOk result (λ v. IsAccepted bytes.now) }
+    ensures counts { IfOk result (λ v. HasCounts v) }
+    // A refusal names the verdict.
+    ensures refused { IfErr result (λ error. IsRefusal bytes.now error) }
+{
+    let parts = image_at(bytes)?;
+    match check_code(alloc, &parts) {
+        Ok(counts) => Ok(Verified { parts, counts }),
+        Err(error) => Err(error),
+    }
+}
+
+/// The parts of an image of one entry, or the least place where the form is wrong.
+fn image_at<'a>(bytes: &'a [u8]) -> Result<Parts<'a>, VerifyError>
+    ensures image { IfOk result (λ parts. IsImage bytes.now (image_of parts)) }
+    ensures refused { IfErr result (λ error. IsRefusal bytes.now error) }
+{
+    match read_image(bytes) {
+        Ok(parts) => {
+            if parts.entries.len() == 1 {
+                Ok(parts)
+            } else {
+                Err(wrong_form(ENTRY_COUNT))
+            }
+        }
+        Err(fault) => {
+            if fault.place > ENTRY_COUNT && bytes[ENTRY_COUNT as usize] != 1 {
+                Err(wrong_form(ENTRY_COUNT))
+            } else {
+                Err(wrong_form(fault.place))
+            }
+        }
+    }
+}
+
+fn wrong_form(place: u32) -> VerifyError
+    ensures { result ≡ Refused V1 place }
+{
+    VerifyError::Refused {
+        rule: Rule::V1,
+        at: u64::from(place),
+    }
+}
+
+/// The rules on the code of a good image of one entry.
+fn check_code(alloc: Global, parts: &Parts<'_>) -> Result<Counts, VerifyError>
+    requires good { IsGood (image_of parts.now) }
+    requires one { length (image_of parts.now).entries ≡ 1 }
+    ensures accepted { OnOk result (IsAcceptedImage (image_of parts.now)) }
+    ensures counts { IfOk result (λ c. HasCounts (checked_of parts.now c.procedures c.items)) }
+    ensures refused { IfErr result (λ error. IsCodeRefusal (image_of parts.now) error) }
+{
+    let listing = listing_of(alloc, parts)?;
+    check_shape(alloc, parts, &listing)?;
+    check_flow(alloc, parts, &listing)?;
+    Ok(Counts {
+        procedures: 1,
+        items: (listing.items.len() - 1) as u32,
+    })
+}
+
+/// V2: the chain of items.
+fn listing_of<'a>(alloc: Global, parts: &Parts<'a>) -> Result<Listing<'a>, VerifyError>
+    requires { IsGood (image_of parts.now) }
+    ensures code { IfOk result (λ l. l.code.now ≡ (image_of parts.now).code) }
+    ensures listing { IfOk result (λ l. HasListing (image_of parts.now) l.items.items) }
+    ensures refused { IfErr result (λ error. IsCodeRefusal (image_of parts.now) error) }
+{
+    match sweep(alloc, parts.code, parts.prefix) {
+        Ok(listing) => Ok(listing),
+        Err(SweepError::NoMemory) => Err(VerifyError::NoMemory),
+        Err(SweepError::NoItem { at }) => Err(refused(Rule::V2, at)),
+    }
+}
+
+/// A refusal at a place of the code.
+fn refused(rule: Rule, place: u32) -> VerifyError
+    ensures { result ≡ Refused rule (code_base + place) }
+{
+    VerifyError::Refused {
+        rule,
+        at: CODE_BASE + u64::from(place),
+    }
+}
+
+/// V3 to V9.
+fn check_shape(alloc: Global, parts: &Parts<'_>, listing: &Listing<'_>) -> Result<(), VerifyError>
+    requires good { IsGood (image_of parts.now) }
+    requires one { length (image_of parts.now).entries ≡ 1 }
+    requires code { listing.now.code.now ≡ (image_of parts.now).code }
+    requires listing { HasListing (image_of parts.now) listing.now.items.items }
+    ensures holds { OnOk result ((rule : Rule) (place : ℕ) → BreaksShape rule (image_of parts.now) listing.now.items.items place → ⊥) }
+    ensures refused { IfErr result (λ error. IsCodeRefusal (image_of parts.now) error) }
+{
+    check_ends(parts, listing)?;
+    let numbers = item_numbers(alloc, listing)?;
+    check_prefix(alloc, parts, listing, &numbers)?;
+    check_jumps(parts, listing, &numbers)?;
+    check_entry(parts, listing, &numbers)
+}
+
+/// V3: how procedures begin and end.
+fn check_ends(parts: &Parts<'_>, listing: &Listing<'_>) -> Result<(), VerifyError>
+    requires { HasListing (image_of parts.now) listing.now.items.items }
+    ensures holds { OnOk result (HoldsBelow (image_of parts.now) listing.now.items.items 4) }
+    ensures refused { IfErr result (λ error. IsCodeRefusal (image_of parts.now) error) }
+{
+    let items = listing.items.as_slice();
+    match bad_end(items) {
+        Some(i) => Err(refused(Rule::V3, items[i].at)),
+        None => Ok(()),
+    }
+}
+
+/// V4: the prefix stands in words alone.
+fn check_prefix(
+    alloc: Global,
+    parts: &Parts<'_>,
+    listing: &Listing<'_>,
+    numbers: &ItemNumbers,
+) -> Result<(), VerifyError>
+    requires good { IsGood (image_of parts.now) }
+    requires listing { HasListing (image_of parts.now) listing.now.items.items }
+    requires numbers { NumbersItems listing.now.items.items (number_at numbers.now) }
+    requires below { HoldsBelow (image_of parts.now) listing.now.items.items 4 }
+    ensures holds { OnOk result (HoldsBelow (image_of parts.now) listing.now.items.items 6) }
+    ensures refused { IfErr result (λ error. IsCodeRefusal (image_of parts.now) error) }
+{
+    let places = occurrences(alloc, parts.code, parts.prefix)?;
+    match bad_occurrence(listing.items.as_slice(), numbers, places.as_slice()) {
+        Some(k) => Err(refused(Rule::V4, places[k])),
+        None => Ok(()),
+    }
+}
+
+/// V6: jumps stay in their procedure.
+fn check_jumps(
+    parts: &Parts<'_>,
+    listing: &Listing<'_>,
+    numbers: &ItemNumbers,
+) -> Result<(), VerifyError>
+    requires good { IsGood (image_of parts.now) }
+    requires listing { HasListing (image_of parts.now) listing.now.items.items }
+    requires numbers { NumbersItems listing.now.items.items (number_at numbers.now) }
+    requires below { HoldsBelow (image_of parts.now) listing.now.items.items 6 }
+    ensures holds { OnOk result (HoldsBelow (image_of parts.now) listing.now.items.items 9) }
+    ensures refused { IfErr result (λ error. IsCodeRefusal (image_of parts.now) error) }
+{
+    let items = listing.items.as_slice();
+    match bad_jump(items, numbers) {
+        Some(i) => Err(refused(Rule::V6, items[i].at)),
+        None => Ok(()),
+    }
+}
+
+/// V9: the entry follows a call word.
+fn check_entry(
+    parts: &Parts<'_>,
+    listing: &Listing<'_>,
+    numbers: &ItemNumbers,
+) -> Result<(), VerifyError>
+    requires good { IsGood (image_of parts.now) }
+    requires one { length (image_of parts.now).entries ≡ 1 }
+    requires listing { HasListing (image_of parts.now) listing.now.items.items }
+    requires numbers { NumbersItems listing.now.items.items (number_at numbers.now) }
+    requires below { HoldsBelow (image_of parts.now) listing.now.items.items 9 }
+    ensures holds { OnOk result ((rule : Rule) (place : ℕ) → BreaksShape rule (image_of parts.now) listing.now.items.items place → ⊥) }
+    ensures refused { IfErr result (λ error. IsCodeRefusal (image_of parts.now) error) }
+{
+    let entries = parts.entries.as_slice();
+    let entry = entries[0];
+    if follows_call_word(listing.items.as_slice(), numbers, entry) {
+        Ok(())
+    } else {
+        Err(refused(Rule::V9, entry))
+    }
+}
+
+/// V10 to V16: the first item that breaks a rule on labels.
+fn check_flow(alloc: Global, parts: &Parts<'_>, listing: &Listing<'_>) -> Result<(), VerifyError>
+    requires good { IsGood (image_of parts.now) }
+    requires code { listing.now.code.now ≡ (image_of parts.now).code }
+    requires listing { HasListing (image_of parts.now) listing.now.items.items }
+    requires shape { (rule : Rule) (place : ℕ) → BreaksShape rule (image_of parts.now) listing.now.items.items place → ⊥ }
+    ensures holds { OnOk result (IsAcceptedImage (image_of parts.now)) }
+    ensures refused { IfErr result (λ error. IsCodeRefusal (image_of parts.now) error) }
+{
+    let labels = label_code(alloc, listing)?;
+    let items = listing.items.as_slice();
+    match bad_label(items, &labels) {
+        Some((i, rule)) => Err(refused(rule, items[i].at)),
+        None => Ok(()),
+    }
+}
