@@ -1,0 +1,25 @@
+-- Runs of the machine: configurations, steps, views, starts, and noninterference.
+pub use Rattle.cv_word.specs.Words
+pub use Rattle.cv_word.specs.MemoryMap
+pub use Rattle.cv_word.specs.Arithmetic
+pub use Rattle.x64_decode.specs.Spelling
+pub use Rattle.x64_decode.specs.Reading
+pub use Rattle.x64_alu.specs.Memory
+pub use Rattle.x64_alu.specs.CoreStep
+pub use Rattle.magic_words.specs.MagicWords
+pub use Rattle.code_sweep.specs.Units
+pub use Rattle.code_sweep.specs.Listing
+pub use Rattle.taint_flow.specs.Label
+pub use Rattle.taint_flow.specs.Flow
+pub use Rattle.image_form.specs.Image
+pub use Rattle.image_form.specs.Table
+pub use Rattle.image_form.specs.View
+pub use Rattle.conf_verify.specs.Rules
+pub use Rattle.conf_verify.specs.Verdict
+pub use Rattle.conf_verify.specs.Answer
+pub mod Run
+pub mod Start
+pub mod Entries
+pub mod Fields
+pub mod Endings
+pub mod Noninterference

@@ -1,0 +1,18 @@
+//! The machine: cores over one memory, under a schedule.
+//!
+//! `Machine::new` is the first configuration of a verified image, `Machine::step` one step of a core and
+//! `Machine::run` the steps of a whole schedule, exactly as `start`, `step` and `run` of `specs/` say. Nothing
+//! but `Machine::new` takes memory.
+#![tactic(auto)]
+
+mod cores;
+mod ended;
+mod machine;
+mod outcome;
+mod schedule;
+
+pub use ended::ended_law;
+pub use machine::Machine;
+pub use outcome::Outcome;
+pub use schedule::{Progress, Schedule};
+pub use x64_alu::FaultKind;
