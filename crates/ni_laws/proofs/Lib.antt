@@ -1,0 +1,5 @@
+mod Registers
+mod Rows
+mod Items
+mod Runs
+mod Law
