@@ -1,0 +1,32 @@
+-- The lines that a command prints. Each ends with a newline.
+use Rattle.std.specs.Prelude.{◌==◌, ℕ, false, List, [], ◌∷◌, ◌++◌, codes, if◌then◌else◌}
+use Rattle.std.specs.Fmt.{decimal, digits}
+use Rattle.conf_verify.specs.declared.rule.Rule.{Rule}
+use Rattle.conf_verify.specs.Rules.{rule_number}
+
+abbrev pub newline : List ℕ
+newline = 10 ∷ []
+
+-- lower-case, without leading zeros
+abbrev pub hexadecimal : ℕ → List ℕ
+hexadecimal number = digits 16 false number
+
+abbrev pub accepted_line : ℕ → ℕ → List ℕ
+accepted_line procedures items =
+    codes "accepted procedures " ++ (decimal procedures ++ (codes " items " ++ (decimal items ++ newline)))
+
+-- V1 is broken at a place in the file, any other rule at an address
+abbrev pub refused_line : Rule → ℕ → List ℕ
+refused_line rule at =
+    if rule_number rule == 1
+    then codes "refused V1 at place " ++ (decimal at ++ newline)
+    else codes "refused V" ++ (decimal (rule_number rule) ++ (codes " at 0x" ++ (hexadecimal at ++ newline)))
+
+abbrev pub usage_line : List ℕ
+usage_line = codes "usage fault" ++ newline
+
+abbrev pub store_fault_line : List ℕ → List ℕ
+store_fault_line name = codes "store fault " ++ (name ++ newline)
+
+abbrev pub no_memory_line : List ℕ
+no_memory_line = codes "no memory" ++ newline

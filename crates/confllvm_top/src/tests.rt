@@ -1,0 +1,294 @@
+//! The lines and statuses of `verify` by hand, over stores and sinks in memory that succeed or fail.
+
+use super::*;
+use cv_io::{MemSink, MemStore};
+use cv_word::NoMemory;
+use std::alloc::Global;
+use std::process::Abort;
+use std::test::Fail;
+
+/// An image whose code is a call word and an undefined instruction.
+const SMALL: [u8; 54] = [
+    0x43, 0x46, 0x56, 0x49, 0x01, 0x01, 0x00, 0x00, 0xa1, 0xa2, 0xa3, 0xa4, 0xa5, 0xa6, 0x00, 0x00,
+    0x00, 0x00, 0x01, 0x00, 0x00, 0x10, 0x00, 0x00, 0x0a, 0x00, 0x00, 0x00, 0x00, 0x00, 0x00, 0x00,
+    0x00, 0x00, 0x00, 0x00, 0x00, 0x00, 0x00, 0x00, 0x08, 0x00, 0x00, 0x00, 0x0f, 0x11, 0xa1, 0xa2,
+    0xa3, 0xa4, 0xa5, 0xa6, 0x0f, 0x0b,
+];
+
+/// A prefix and a code, the exit status and the line.
+const CODES: [(&[u8], &[u8], u8, &[u8]); 22] = [
+    (
+        b"\xa1\xa2\xa3\xa4\xa5\xa6",
+        b"\x0f\x11\xa1\xa2\xa3\xa4\xa5\xa6\x0f\x0b",
+        0,
+        b"accepted procedures 1 items 1\n",
+    ),
+    (
+        b"\x90\x90\x90\x90\x90\x90",
+        b"\x0f\x11\x90\x90\x90\x90\x90\x90\x90\x0f\x0b",
+        1,
+        b"refused V4 at 0x10003\n",
+    ),
+    (
+        b"\xa1\xa2\xa3\xa4\xa5\xa6",
+        b"\x0f\x11\xa1\xa2\xa3\xa4\xa5\xa6\x40\xb8\x00\x00\x00\x00\x48\x81\xf8\x00\x00\x00\x00\x0f\x84\x08\x00\x00\x00\x48\x89\xf8\xe9\xeb\xff\xff\xff\x0f\x0b",
+        1,
+        b"refused V12 at 0x10015\n",
+    ),
+    (
+        b"\xa1\xa2\xa3\xa4\xa5\xa6",
+        b"\x0f\x11\xa1\xa2\xa3\xa4\xa5\xa6\x41\xb8\x00\x10\x00\x00\x65\x67\x49\x8b\x80\x00\x00\x00\x00\x64\x67\x49\x89\x80\x00\x00\x00\x00\x0f\x0b",
+        1,
+        b"refused V11 at 0x10017\n",
+    ),
+    (
+        b"\xa1\xa2\xa3\xa4\xa5\xa6",
+        b"\x0f\x11\xa1\xa2\xa3\xa4\xa5\xa6\x41\xb8\x00\x10\x00\x00\x64\x67\x49\x8b\x80\x00\x00\x00\x00\x65\x67\x49\x89\x80\x00\x00\x00\x00\x0f\x0b",
+        0,
+        b"accepted procedures 1 items 4\n",
+    ),
+    (
+        b"\xa1\xa2\xa3\xa4\xa5\xa6",
+        b"\x0f\x11\xa1\xa2\xa3\xa4\xa5\xa6\x48\xb8\x00\x00\x00\x00\x00\x00\x00\x80\x48\x99\x48\xf7\xf9\x0f\x0b",
+        1,
+        b"refused V13 at 0x10014\n",
+    ),
+    (
+        b"\xa1\xa2\xa3\xa4\xa5\xa6",
+        b"\x0f\x11\xa1\xa2\xa3\xa4\xa5\xa6\x90",
+        1,
+        b"refused V3 at 0x10008\n",
+    ),
+    (
+        b"\xa1\xa2\xa3\xa4\xa5\xa6",
+        b"\x0f\x11\xa1\xa2\xa3\xa4\xa5\xa6\x64\x67\x48\x8b\x80\x00\x00\x00\x00\x0f\x0b",
+        1,
+        b"refused V10 at 0x10008\n",
+    ),
+    (
+        b"\xa1\xa2\xa3\xa4\xa5\xa6",
+        b"\x0f\x11\xa1\xa2\xa3\xa4\xa5\xa6\x48\x89\xc4\x0f\x0b",
+        1,
+        b"refused V14 at 0x10008\n",
+    ),
+    (
+        b"\xa1\xa2\xa3\xa4\xa5\xa6",
+        b"\x0f\x11\xa1\xa2\xa3\xa4\xa5\xa6\x48\x99\x0f\x0b",
+        0,
+        b"accepted procedures 1 items 2\n",
+    ),
+    (
+        b"\xa1\xa2\xa3\xa4\xa5\xa6",
+        b"\x0f\x11\xa1\xa2\xa3\xa4\xa5\xa6\xe9\x00\x00\x00\x00",
+        1,
+        b"refused V6 at 0x10008\n",
+    ),
+    (
+        b"\xa1\xa2\xa3\xa4\xa5\xa6",
+        b"\x0f\x11\xa1\xa2\xa3\xa4\xa5\xa6\xe9\xfb\xff\xff\xff",
+        0,
+        b"accepted procedures 1 items 1\n",
+    ),
+    (
+        b"\xa1\xa2\xa3\xa4\xa5\xa6",
+        b"\x0f\x11\xa1\xa2\xa3\xa4\xa5\xa6\xe9\x04\x00\x00\x00\x48\x83\xf8\xff\x0f\x0b",
+        1,
+        b"refused V2 at 0x1000d\n",
+    ),
+    (
+        b"\xa1\xa2\xa3\xa4\xa5\xa6",
+        b"\x0f\x11\xa1\xa2\xa3\xa4\xa5\xa6\xe9\x01\x00\x00\x00\x90\x0f\x0b",
+        0,
+        b"accepted procedures 1 items 3\n",
+    ),
+    (
+        b"\xa1\xa2\xa3\xa4\xa5\xa6",
+        b"\x0f\x11\xa1\xa2\xa3\xa4\xa5\xa6\xe9\xf3\xff\xff\xff",
+        1,
+        b"refused V6 at 0x10008\n",
+    ),
+    (
+        b"\xa1\xa2\xa3\xa4\xa5\xa6",
+        b"\x0f\x11\xa1\xa2\xa3\xa4\xa5\xa6\xe9\xfe\xff\xff\xff",
+        1,
+        b"refused V6 at 0x10008\n",
+    ),
+    (
+        b"\xa1\xa2\xa3\xa4\xa5\xa6",
+        b"\x0f\x11\xa1\xa2\xa3\xa4\xa5\xa6\xe9\xf2\xff\xff\xff",
+        1,
+        b"refused V6 at 0x10008\n",
+    ),
+    (
+        b"\xa1\xa2\xa3\xa4\xa5\xa6",
+        b"\x0f\x11\xa1\xa2\xa3\xa4\xa5\xa6\xe9\xfc\xff\xff\xff",
+        1,
+        b"refused V6 at 0x10008\n",
+    ),
+    (
+        b"\xa1\xa2\xa3\xa4\xa5\xa6",
+        b"\x0f\x11\xa1\xa2\xa3\xa4\xa5\xa6\xe9\x00\x00\x00\x00\x0f\x0b",
+        0,
+        b"accepted procedures 1 items 2\n",
+    ),
+    (
+        b"\xa1\xa2\xa3\xa4\xa5\xa6",
+        b"\x0f\x11\xa1\xa2\xa3\xa4\xa5\xa6\x0f\x84\x0a\x00\x00\x00\x0f\x0b",
+        1,
+        b"refused V6 at 0x10008\n",
+    ),
+    (
+        b"\xa1\xa2\xa3\xa4\xa5\xa6",
+        b"\x0f\x11\xa1\xa2\xa3\xa4\xa5\xa6\x48\x39\xc0\x0f\x84\x00\x00\x00\x00\x0f\x0b",
+        1,
+        b"refused V12 at 0x1000b\n",
+    ),
+    (
+        b"\xa1\xa2\xa3\xa4\xa5\xa6",
+        b"\x0f\x11\xa1\xa2\xa3\xa4\xa5\xa6\x90\x0f\x11\xa1\xa2\xa3\xa4\xa5\xa6\x0f\x0b",
+        1,
+        b"refused V2 at 0x10009\n",
+    ),
+];
+
+/// An image with one entry at 8 and a code of at most 255 bytes.
+fn image(alloc: Global, prefix: &[u8], code: &[u8]) -> Result<Vec<u8>, NoMemory> {
+    let mut bytes = Vec::new(alloc);
+    bytes.extend_from_slice(&SMALL[..8])?;
+    bytes.extend_from_slice(prefix)?;
+    bytes.extend_from_slice(&SMALL[14..24])?;
+    bytes.push((code.len() % 256) as u8)?;
+    bytes.extend_from_slice(&SMALL[25..44])?;
+    bytes.extend_from_slice(code)?;
+    Ok(bytes)
+}
+
+fn words(alloc: Global, texts: &[&str]) -> Result<Vec<String>, NoMemory> {
+    let mut words = Vec::new(alloc);
+    for text in texts {
+        words.push(String::from_str(alloc, text)?)?;
+    }
+    Ok(words)
+}
+
+/// Asserts what a command answers over a file `img`: the exit status, and what `out` and `err` hold.
+fn assert_told(
+    rt: &impl Abort,
+    alloc: Global,
+    bytes: &[u8],
+    texts: &[&str],
+    wanted: (u8, &[u8], &[u8]),
+) -> Result<(), Fail> {
+    let mut store = MemStore::new(alloc);
+    store.add("img", bytes)?;
+    let (mut out, mut err) = (MemSink::new(alloc), MemSink::new(alloc));
+    let status = confllvm(alloc, &words(alloc, texts)?, &mut store, &mut out, &mut err);
+    assert_eq!(rt; status.code(), wanted.0);
+    assert_eq!(rt; out.bytes(), wanted.1);
+    assert_eq!(rt; err.bytes(), wanted.2);
+    assert_eq!(rt; store.faults(), 0);
+    Ok(())
+}
+
+#[test]
+fn tells_the_verdict_of_a_code(rt: HostRuntime) -> Result<(), Fail> {
+    for (prefix, code, status, line) in CODES {
+        let bytes = image(rt.alloc(), prefix, code)?;
+        assert_told(
+            &rt,
+            rt.alloc(),
+            bytes.as_slice(),
+            &["verify", "img"],
+            (status, line, b""),
+        )?;
+    }
+    Ok(())
+}
+
+#[test]
+fn tells_the_place_of_a_wrong_form(rt: HostRuntime) -> Result<(), Fail> {
+    let mut long = Vec::new(rt.alloc());
+    long.extend_from_slice(&SMALL)?;
+    long.push(0)?;
+    let cases: [(&[u8], &[u8]); 3] = [
+        (b"", b"refused V1 at place 0\n"),
+        (&SMALL[..53], b"refused V1 at place 24\n"),
+        (long.as_slice(), b"refused V1 at place 54\n"),
+    ];
+    for (bytes, line) in cases {
+        assert_told(&rt, rt.alloc(), bytes, &["verify", "img"], (1, line, b""))?;
+    }
+    Ok(())
+}
+
+/// The entry's four bytes stand at 40.
+#[test]
+fn tells_an_entry_at_the_call_word(rt: HostRuntime) -> Result<(), Fail> {
+    let mut bytes = SMALL;
+    bytes[40] = 0;
+    assert_told(
+        &rt,
+        rt.alloc(),
+        &bytes,
+        &["verify", "img"],
+        (1, b"refused V9 at 0x10000\n", b""),
+    )
+}
+
+#[test]
+fn tells_usage_and_a_missing_file(rt: HostRuntime) -> Result<(), Fail> {
+    assert_told(
+        &rt,
+        rt.alloc(),
+        &SMALL,
+        &["frobnicate"],
+        (2, b"", b"usage fault\n"),
+    )?;
+    assert_told(
+        &rt,
+        rt.alloc(),
+        &SMALL,
+        &["verify"],
+        (2, b"", b"usage fault\n"),
+    )?;
+    assert_told(&rt, rt.alloc(), &SMALL, &[], (2, b"", b"usage fault\n"))?;
+    assert_told(
+        &rt,
+        rt.alloc(),
+        &SMALL,
+        &["verify", "gone"],
+        (3, b"", b"store fault gone\n"),
+    )?;
+    Ok(())
+}
+
+#[test]
+fn tells_a_failing_store_and_sink(rt: HostRuntime) -> Result<(), Fail> {
+    let alloc = rt.alloc();
+    let line = words(alloc, &["verify", "img"])?;
+    let mut store = MemStore::new(alloc);
+    store.add("img", &SMALL)?;
+    let (mut out, mut err) = (MemSink::new(alloc), MemSink::new(alloc));
+    out.fail_at(1, 3)?;
+    let status = confllvm(alloc, &line, &mut store, &mut out, &mut err);
+    assert_eq!(rt; status.code(), 4);
+    assert_eq!(rt; out.bytes(), b"acc".as_slice());
+    assert_eq!(rt; err.bytes(), b"".as_slice());
+
+    let mut failing = MemStore::new(alloc);
+    failing.add("img", &SMALL)?;
+    failing.fail_at(1)?;
+    let mut second = MemSink::new(alloc);
+    let status = confllvm(alloc, &line, &mut failing, &mut second, &mut err);
+    assert_eq!(rt; status, Status::StoreFault);
+    assert_eq!(rt; failing.faults(), 1);
+    assert_eq!(rt; second.bytes(), b"".as_slice());
+
+    let mut deaf = MemSink::new(alloc);
+    deaf.fail_at(1, 2)?;
+    let wrong = words(alloc, &["frobnicate"])?;
+    let status = confllvm(alloc, &wrong, &mut store, &mut second, &mut deaf);
+    assert_eq!(rt; status, Status::Usage);
+    assert_eq!(rt; deaf.bytes(), b"us".as_slice());
+    Ok(())
+}
