@@ -1,0 +1,7 @@
+#!/bin/sh
+# Times `confllvm verify` beside `objdump -d` on images of 64 KiB, 1 MiB and 4 MiB, of straight code and of jumps, and prints
+# bytes a second and the ratio. Wants python3 and objdump.
+set -eu
+top=$(cd "$(dirname "$0")/.." && pwd)
+"$top/confllvm" verify "$top/examples/one.cfv" >/dev/null
+exec python3 "$top/bench/verify.py" "$top/crates/confllvm_cli/out/confllvm_cli"
