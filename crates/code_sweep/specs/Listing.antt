@@ -5,7 +5,6 @@ use Rattle.x64_decode.specs.Reading.{instruction_at}
 use Rattle.x64_decode.specs.declared.instr.Reg.{Reg}
 use Rattle.x64_decode.specs.declared.instr.Instr.{Instr}
 use Rattle.x64_decode.specs.declared.instr.Instr.TheVariants.{CmpFlat, JmpR10, CallR10}
-use Rattle.x64_decode.specs.declared.instr.Instr.TheVariants as instr
 use Rattle.magic_words.specs.MagicWords.{call_word, return_word, BeginsWord}
 use Rattle.magic_words.specs.declared.word.Word.{Word}
 use Rattle.magic_words.specs.declared.word.Word.TheVariants as word
@@ -44,33 +43,26 @@ NoReturnUnit prefix bytes = (bit : ℕ) → Begins prefix bytes (ReturnUnit bit)
 abbrev pub NoCallUnit : List ℕ → List ℕ → Type 0
 NoCallUnit prefix bytes = (r : Reg) (bits : ℕ) → Begins prefix bytes (CallUnit r bits) → ⊥
 
+-- what may stand outside a check unit: all instructions but the three that a check ends with or compares by
+abbrev pub StandsAlone : Instr → Type 0
+StandsAlone CmpFlat = ⊥
+StandsAlone JmpR10 = ⊥
+StandsAlone CallR10 = ⊥
+StandsAlone _ = Unit {0}
+
 -- the item that the bytes begin with: a word, else a return unit, else a call unit, else an instruction
 abbrev pub IsItem : List ℕ → List ℕ → Item → Type 0
 IsItem prefix bytes (Call bits) = Begins prefix bytes (Call bits)
 IsItem prefix bytes (Ret bit) = Begins prefix bytes (Ret bit)
 IsItem prefix bytes (ReturnUnit bit) = NoWord prefix bytes × Begins prefix bytes (ReturnUnit bit)
 IsItem prefix bytes (CallUnit r bits) = NoWord prefix bytes × NoReturnUnit prefix bytes × Begins prefix bytes (CallUnit r bits)
-IsItem prefix bytes (Plain i) = NoWord prefix bytes × NoReturnUnit prefix bytes × NoCallUnit prefix bytes × (instruction_at bytes ≡ Some i)
-
--- What is admitted so far: a call word at the first byte alone, and the instructions that neither call nor belong to
--- check units. Everything else is refused as no item.
-abbrev pub StandsAlone : Instr → Type 0
-StandsAlone CmpFlat = ⊥
-StandsAlone JmpR10 = ⊥
-StandsAlone CallR10 = ⊥
-StandsAlone (instr.Call rel) = ⊥
-StandsAlone _ = Unit {0}
-
-abbrev pub IsAdmitted : ℕ → Item → Type 0
-IsAdmitted place (Call bits) = place ≡ 0
-IsAdmitted place (Plain i) = StandsAlone i
-IsAdmitted place _ = ⊥
+IsItem prefix bytes (Plain i) =
+    NoWord prefix bytes × NoReturnUnit prefix bytes × NoCallUnit prefix bytes × (instruction_at bytes ≡ Some i) × StandsAlone i
 
 -- the item that stands at a place of the code
 pub record StandsAt (prefix code : List ℕ) (place : ℕ) (item : Item) : Type 0 where
   pub inside : place < length code
   pub is : IsItem prefix (drop place code) item
-  pub admitted : IsAdmitted place item
 
 -- the items stand one behind another from one place of the code to another
 abbrev pub IsChain : List ℕ → List ℕ → List Placed → ℕ → ℕ → Type 0

@@ -1,6 +1,7 @@
 -- The rules, and the verdict on the bytes of an image.
 pub use Rattle.cv_word.specs.Words
 pub use Rattle.cv_word.specs.MemoryMap
+pub use Rattle.cv_word.specs.Gates
 pub use Rattle.cv_word.specs.Arithmetic
 pub use Rattle.x64_decode.specs.Spelling
 pub use Rattle.x64_decode.specs.Reading
@@ -10,6 +11,7 @@ pub use Rattle.code_sweep.specs.Listing
 pub use Rattle.code_sweep.specs.Sweep
 pub use Rattle.taint_flow.specs.Label
 pub use Rattle.taint_flow.specs.Flow
+pub use Rattle.taint_flow.specs.Calls
 pub use Rattle.taint_flow.specs.Bits
 pub use Rattle.taint_flow.specs.Places
 pub use Rattle.image_form.specs.Image

@@ -1,5 +1,7 @@
 -- What breaks each rule, and where. The address of a place in the code is the code's base plus the place.
-use Rattle.std.specs.Prelude.{◌≡◌, ◌≢◌, ℕ, zero, suc, ◌+◌, ◌<◌, ◌≤◌, Bool, true, false, ◌⊎◌, List, [], ◌∷◌, length, take, Contains, Option, Some, None, slice_get, if◌then◌else◌}
+use Rattle.std.specs.Prelude.{◌≡◌, ◌≢◌, ℕ, zero, suc, ◌+◌, ◌<◌, ◌≤◌, ◌==◌, Bool, true, false, ◌⊎◌, List, [], ◌∷◌, length, take, Contains, Option, Some, None, slice_get, if◌then◌else◌}
+use Rattle.std.specs.Int.{bit_at}
+use Rattle.std.specs.Option.{option_or}
 use Rattle.cv_word.specs.MemoryMap.{code_base}
 use Rattle.x64_decode.specs.declared.instr.Instr.{Instr}
 use Rattle.x64_decode.specs.declared.instr.Instr.TheVariants as instr
@@ -9,7 +11,8 @@ use Rattle.code_sweep.specs.declared.item.Item.TheVariants.{Call, Ret, Plain, Re
 use Rattle.code_sweep.specs.declared.item.Placed.{Placed}
 use Rattle.code_sweep.specs.Listing.{IsListing, BreaksAt}
 use Rattle.taint_flow.specs.Label.{Label}
-use Rattle.taint_flow.specs.Flow.{address, jump_target, Labelling, MeetsFlow, has_private_address, stores_private, branches_on_private, divides_private, leaves_private_stack}
+use Rattle.taint_flow.specs.Flow.{address, jump_target, Labelling, MeetsFlow, has_private_address, stores_private, branches_on_private, divides_private, leaves_private_stack, passes_private, returns_private}
+use Rattle.taint_flow.specs.Calls.{call_bits, call_target, callee, is_call}
 use Rattle.image_form.specs.Image.{Image, IsGood, spelling}
 use Rattle.image_form.specs.Table.{IsFault}
 use Rattle.conf_verify.specs.declared.rule.Rule.{Rule}
@@ -70,11 +73,52 @@ IsGoodTarget items i target =
     (j : ℕ) × (q : Placed) × (slice_get items j ≡ Some q) × (address q ≡ target) ×
     (is_word q.item ≡ false) × (procedure_of items j ≡ procedure_of items i)
 
+-- a return word with this bit stands behind item i
+abbrev pub HasReturnWord : List Placed → ℕ → ℕ → Type 0
+HasReturnWord items i bit = (q : Placed) × (slice_get items (suc i) ≡ Some q) × (q.item ≡ Ret bit)
+
+-- the bit of a return word fits what is called: it is bit 4 of the callee's bits; where a direct call has a bad target, any does
+abbrev pub fits_result : Option ℕ → ℕ → Bool
+fits_result None bit = true
+fits_result (Some bits) bit = bit == bit_at bits 4
+
+-- a call stands before item i
+abbrev pub FollowsCall : List Placed → ℕ → Type 0
+FollowsCall items i = (h : ℕ) × (q : Placed) × (i ≡ suc h) × (slice_get items h ≡ Some q) × (is_call q.item ≡ true)
+
+-- V5: a call behind which no return word stands that fits; or a return word that follows no call
+abbrev pub BreaksReturns : List Placed → ℕ → Type 0
+BreaksReturns items place =
+    (i : ℕ) × (p : Placed) × (slice_get items i ≡ Some p) × (p.at ≡ place) ×
+    (((is_call p.item ≡ true) × ((bit : ℕ) → HasReturnWord items i bit → fits_result (callee items p) bit ≡ true → ⊥))
+    ⊎ ((bit : ℕ) × (p.item ≡ Ret bit) × (FollowsCall items i → ⊥)))
+
 -- V6: a jump whose target is no item of its procedure, or a word
 abbrev pub BreaksJumps : List Placed → ℕ → Type 0
 BreaksJumps items place =
     (i : ℕ) × (p : Placed) × (target : ℕ) × (slice_get items i ≡ Some p) × (p.at ≡ place) ×
     (jump_target p ≡ Some target) × (IsGoodTarget items i target → ⊥)
+
+-- V7: a direct call whose target is neither behind a call word nor a gate
+abbrev pub BreaksCalls : List Placed → ℕ → Type 0
+BreaksCalls items place =
+    (i : ℕ) × (p : Placed) × (target : ℕ) × (slice_get items i ≡ Some p) × (p.at ≡ place) ×
+    (call_target p ≡ Some target) × (callee items p ≡ None)
+
+-- the bits of the last call word of a list
+abbrev pub last_bits : List Placed → Option ℕ
+last_bits [] = None
+last_bits (p ∷ ps) = option_or (last_bits ps) (call_bits p.item)
+
+-- the bits of an item's procedure are those of the last call word up to it
+abbrev pub procedure_bits : List Placed → ℕ → Option ℕ
+procedure_bits items i = last_bits (take (suc i) items)
+
+-- V8: a return unit whose bit isn't bit 4 of its procedure's bits
+abbrev pub BreaksResults : List Placed → ℕ → Type 0
+BreaksResults items place =
+    (i : ℕ) × (p : Placed) × (bit bits : ℕ) × (slice_get items i ≡ Some p) × (p.at ≡ place) ×
+    (p.item ≡ ReturnUnit bit) × (procedure_bits items i ≡ Some bits) × (bit ≢ bit_at bits 4)
 
 -- V9: an entry that doesn't follow a call word
 abbrev pub FollowsCallWord : List Placed → ℕ → Type 0
@@ -83,31 +127,30 @@ FollowsCallWord items place = (i : ℕ) × (p : Placed) × (slice_get items i �
 abbrev pub BreaksEntries : List ℕ → List Placed → ℕ → Type 0
 BreaksEntries entries items place = (n : ℕ) × (entry : ℕ) × (slice_get entries n ≡ Some entry) × (entry ≡ place) × (FollowsCallWord items place → ⊥)
 
--- V10 to V14 speak of an instruction and what may be private before it. V15 and V16 speak of calls and check units, which
--- no listing has so far.
-abbrev pub breaks_label : Rule → Instr → Label → Bool
-breaks_label V10 i l = has_private_address i l
-breaks_label V11 i l = stores_private i l
-breaks_label V12 i l = branches_on_private i l
-breaks_label V13 i l = divides_private i l
-breaks_label V14 i l = leaves_private_stack i l
-breaks_label _ i l = false
-
-abbrev pub item_breaks : Rule → Item → Label → Bool
-item_breaks rule (Plain i) l = breaks_label rule i l
-item_breaks rule _ l = false
+-- V10 to V16 speak of an item, the bits of what it calls, and what may be private before it.
+abbrev pub item_breaks : Rule → Option ℕ → Item → Label → Bool
+item_breaks V10 called item l = has_private_address item l
+item_breaks V11 called item l = stores_private item l
+item_breaks V12 called item l = branches_on_private item l
+item_breaks V13 called item l = divides_private item l
+item_breaks V14 called item l = leaves_private_stack item l
+item_breaks V15 called item l = passes_private called l
+item_breaks V16 called item l = returns_private item l
+item_breaks _ called item l = false
 
 -- the item at a place breaks the rule under this labelling
 abbrev pub BreaksUnder : Rule → List Placed → Labelling → ℕ → Type 0
 BreaksUnder rule items labels place =
-    (i : ℕ) × (p : Placed) × (slice_get items i ≡ Some p) × (p.at ≡ place) × (item_breaks rule p.item (labels i) ≡ true)
+    (i : ℕ) × (p : Placed) × (slice_get items i ≡ Some p) × (p.at ≡ place) × (item_breaks rule (callee items p) p.item (labels i) ≡ true)
 
--- V3 to V9, of an image's code, its listing and a place in the code. V5, V7 and V8 speak of calls and return units, which
--- no listing has so far.
+-- V3 to V9, of an image's code, its listing and a place in the code
 abbrev pub BreaksShape : Rule → Image → List Placed → ℕ → Type 0
 BreaksShape V3 image items place = BreaksEnds items place
 BreaksShape V4 image items place = BreaksPrefix image.prefix image.code items place
+BreaksShape V5 image items place = BreaksReturns items place
 BreaksShape V6 image items place = BreaksJumps items place
+BreaksShape V7 image items place = BreaksCalls items place
+BreaksShape V8 image items place = BreaksResults items place
 BreaksShape V9 image items place = BreaksEntries image.entries items place
 BreaksShape _ image items place = ⊥
 

@@ -1,6 +1,6 @@
 -- The memory map: which flat addresses are code and which are mapped in the two segments. Other addresses, the gates but
 -- for calls, are unmapped. An access is allowed where all its bytes lie in one region.
-use Rattle.std.specs.Prelude.{ℕ, ◌+◌, ◌-◌, ◌*◌, ◌%◌, ◌^◌, Bool, ◌&&◌, nat_lt, nat_le, ℤ}
+use Rattle.std.specs.Prelude.{ℕ, ◌+◌, ◌-◌, ◌%◌, ◌^◌, Bool, ◌&&◌, nat_lt, nat_le, ℤ}
 use Rattle.cv_word.specs.Words.{widened}
 
 -- the first flat address of the code, and of the public (fs) and the private (gs) segment
@@ -16,10 +16,6 @@ private_base = 0x400000000
 -- the first offset of a segment that is mapped
 abbrev pub first_mapped : ℕ
 first_mapped = 4096
-
--- the address of a gate
-abbrev pub gate_address : ℕ → ℕ
-gate_address k = 0x1000 + 16 * k
 
 -- the address lies in a code of that length
 abbrev pub is_in_code : ℕ → ℕ → Bool

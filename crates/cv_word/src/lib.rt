@@ -4,10 +4,12 @@
 //! contracts here are equations with the definitions of `specs/`, which the crates above cite too.
 #![tactic(auto)]
 
+mod gates;
 mod no_memory;
 mod registers;
 mod words;
 
+pub use gates::gate_bits;
 pub use no_memory::NoMemory;
 pub use registers::{Flags, Registers, Taint};
 pub use words::{le32, le64, put_le, sext};

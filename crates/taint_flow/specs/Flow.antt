@@ -1,9 +1,10 @@
 -- Labellings of a listing: which items lead to which, the flow rules, and the rules on labels.
-use Rattle.std.specs.Prelude.{◌≡◌, ℕ, suc, ◌+◌, Bool, true, false, ◌||◌, ◌⊎◌, List, Option, Some, None, slice_get}
+use Rattle.std.specs.Prelude.{◌≡◌, ℕ, suc, ◌+◌, Bool, true, false, ◌||◌, ◌&&◌, not, ◌==◌, ◌⊎◌, List, Option, Some, None, slice_get}
 use Rattle.cv_word.specs.MemoryMap.{code_base}
 use Rattle.cv_word.specs.Arithmetic.{added}
 use Rattle.cv_word.specs.Words.{widened}
-use Rattle.x64_decode.specs.declared.instr.Reg.TheVariants.{Rax, Rdx, Rsp}
+use Rattle.std.specs.Int.{bit_at}
+use Rattle.x64_decode.specs.declared.instr.Reg.TheVariants.{Rax, Rcx, Rdx, Rsp, Rsi, Rdi}
 use Rattle.x64_decode.specs.declared.instr.Seg.{Seg}
 use Rattle.x64_decode.specs.declared.instr.Seg.TheVariants.{Fs, Gs}
 use Rattle.x64_decode.specs.declared.instr.Mem.{Mem}
@@ -11,9 +12,9 @@ use Rattle.x64_decode.specs.declared.instr.Instr.{Instr}
 use Rattle.x64_decode.specs.declared.instr.Instr.TheVariants.{Idiv, Load, LoadZx8, LoadSx8, LoadSx32, Store, Jmp, Jcc, Ud2}
 use Rattle.x64_decode.specs.declared.instr.Instr.TheVariants as instr
 use Rattle.code_sweep.specs.declared.item.Item.{Item}
-use Rattle.code_sweep.specs.declared.item.Item.TheVariants.{Call, Plain}
+use Rattle.code_sweep.specs.declared.item.Item.TheVariants.{Call, Ret, Plain, ReturnUnit, CallUnit}
 use Rattle.code_sweep.specs.declared.item.Placed.{Placed}
-use Rattle.taint_flow.specs.Label.{Label, flags, taint, IsAtMost, left_by, entry_label}
+use Rattle.taint_flow.specs.Label.{Label, flags, taint, IsAtMost, left_by, entry_label, return_label}
 
 -- the flat address of an item, and of what follows it
 abbrev pub address : Placed → ℕ
@@ -62,9 +63,15 @@ left_behind _ l = l
 abbrev pub Labelling : Type 0
 Labelling = ℕ → Label
 
--- The flow rules: behind a call word at least what it says may be private; and where an item leads, at least what it leaves.
+-- what a word says may be private at least behind it
+abbrev pub said_behind : Item → Option Label
+said_behind (Call bits) = Some (entry_label bits)
+said_behind (Ret bit) = Some (return_label bit)
+said_behind _ = None
+
+-- The flow rules: behind a word at least what it says may be private; and where an item leads, at least what it leaves.
 pub record MeetsFlow (items : List Placed) (labels : Labelling) : Type 0 where
-  pub entry : (i : ℕ) (p : Placed) (bits : ℕ) → slice_get items i ≡ Some p → p.item ≡ Call bits → IsAtMost (entry_label bits) (labels (suc i))
+  pub words : (i : ℕ) (p : Placed) (l : Label) → slice_get items i ≡ Some p → said_behind p.item ≡ Some l → IsAtMost l (labels (suc i))
   pub leads : (i j : ℕ) (p : Placed) → slice_get items i ≡ Some p → Leads items i j → IsAtMost (left_behind p.item (labels i)) (labels j)
 
 -- the memory operand of an instruction
@@ -81,31 +88,59 @@ abbrev pub base_is_private : Option Mem → Label → Bool
 base_is_private None l = false
 base_is_private (Some mem) l = taint l mem.base
 
--- The rules on labels, for an instruction and what may be private before it.
+-- The rules on labels, for an item and what may be private before it.
 
--- an access to memory whose address may be private
-abbrev pub has_private_address : Instr → Label → Bool
-has_private_address i l = base_is_private (memory_of i) l
+-- an access to memory whose address may be private; a return unit reads at rsp, and a call unit goes where its register says
+abbrev pub has_private_address : Item → Label → Bool
+has_private_address (Plain i) l = base_is_private (memory_of i) l
+has_private_address (ReturnUnit bit) l = taint l Rsp
+has_private_address (CallUnit r bits) l = taint l r
+has_private_address _ l = false
 
 -- a store to the public segment of what may be private
 abbrev pub shows_private : Seg → Bool → Bool
 shows_private Fs private = private
 shows_private Gs private = false
 
-abbrev pub stores_private : Instr → Label → Bool
-stores_private (Store width mem src) l = shows_private mem.seg (taint l src)
+abbrev pub instruction_stores_private : Instr → Label → Bool
+instruction_stores_private (Store width mem src) l = shows_private mem.seg (taint l src)
+instruction_stores_private _ l = false
+
+abbrev pub stores_private : Item → Label → Bool
+stores_private (Plain i) l = instruction_stores_private i l
 stores_private _ l = false
 
 -- a branch on flags that may be private
-abbrev pub branches_on_private : Instr → Label → Bool
-branches_on_private (Jcc cc rel) l = l flags
+abbrev pub instruction_branches_on_private : Instr → Label → Bool
+instruction_branches_on_private (Jcc cc rel) l = l flags
+instruction_branches_on_private _ l = false
+
+abbrev pub branches_on_private : Item → Label → Bool
+branches_on_private (Plain i) l = instruction_branches_on_private i l
 branches_on_private _ l = false
 
 -- a division whose operands may be private
-abbrev pub divides_private : Instr → Label → Bool
-divides_private (Idiv r) l = taint l Rax || (taint l Rdx || taint l r)
+abbrev pub instruction_divides_private : Instr → Label → Bool
+instruction_divides_private (Idiv r) l = taint l Rax || (taint l Rdx || taint l r)
+instruction_divides_private _ l = false
+
+abbrev pub divides_private : Item → Label → Bool
+divides_private (Plain i) l = instruction_divides_private i l
 divides_private _ l = false
 
--- rsp may be private behind the instruction
-abbrev pub leaves_private_stack : Instr → Label → Bool
-leaves_private_stack i l = taint (left_by i l) Rsp
+-- an instruction behind which rsp may be private
+abbrev pub leaves_private_stack : Item → Label → Bool
+leaves_private_stack (Plain i) l = taint (left_by i l) Rsp
+leaves_private_stack _ l = false
+
+-- a call with the bits of what is called: an argument may be private whose bit is clear
+abbrev pub passes_private : Option ℕ → Label → Bool
+passes_private None l = false
+passes_private (Some bits) l =
+    (taint l Rdi && not (bit_at bits 0 == 1)) || (taint l Rsi && not (bit_at bits 1 == 1))
+    || (taint l Rdx && not (bit_at bits 2 == 1)) || (taint l Rcx && not (bit_at bits 3 == 1))
+
+-- a return with a public result, where rax may be private
+abbrev pub returns_private : Item → Label → Bool
+returns_private (ReturnUnit bit) l = (bit == 0) && taint l Rax
+returns_private _ l = false

@@ -91,3 +91,9 @@ entry_label bits = λ k.
     if k == number Rdx then bit_at bits 2 == 1 else
     if k == number Rcx then bit_at bits 3 == 1 else
     nat_le k flags && not (k == number Rsp)
+
+-- What may be private at least behind a return word: the flags and all registers but rsp, and rax only where the bit says so.
+unfoldable pub return_label : ℕ → Label
+return_label bit = λ k.
+    if k == number Rax then bit == 1 else
+    nat_le k flags && not (k == number Rsp)

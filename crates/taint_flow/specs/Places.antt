@@ -2,7 +2,7 @@
 -- the item at a place.
 use Rattle.std.specs.Prelude.{◌≡◌, ℕ, suc, ◌<◌, Bool, true, List, length, Option, Some, None, slice_get, slice_index_or, ◌==◌, if◌then◌else◌}
 use Rattle.code_sweep.specs.declared.item.Item.{Item}
-use Rattle.code_sweep.specs.declared.item.Item.TheVariants.{Call}
+use Rattle.code_sweep.specs.declared.item.Item.TheVariants.{Call, Ret}
 use Rattle.code_sweep.specs.declared.item.Placed.{Placed}
 use Rattle.taint_flow.specs.Flow.{falls_through}
 
@@ -11,9 +11,10 @@ pub record StandInOrder (items : List Placed) (code : List ℕ) : Type 0 where
   pub inside : (i : ℕ) (p : Placed) → slice_get items i ≡ Some p → p.at < length code
   pub rising : (i j : ℕ) (p q : Placed) → slice_get items i ≡ Some p → slice_get items j ≡ Some q → i < j → p.at < q.at
 
--- an item that leads to the one behind it, and a call word, is not the last
+-- an item that leads to the one behind it, and a word, is not the last
 abbrev pub goes_on : Item → Bool
 goes_on (Call bits) = true
+goes_on (Ret bit) = true
 goes_on item = falls_through item
 
 abbrev pub NextStands : List Placed → Type 0

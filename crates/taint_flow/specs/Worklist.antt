@@ -1,11 +1,9 @@
 -- The state of the labelling while it is found: a label for each item, whether an item is queued, and the stack of the queued.
 use Rattle.std.specs.Prelude.{◌≡◌, ℕ, suc, ◌+◌, ◌-◌, ◌*◌, ◌^◌, ◌<◌, ◌≤◌, Bool, true, false, List, length, Option, Some, None, slice_get, slice_index_or, Contains}
 use Rattle.std.specs.List.{sum_by}
-use Rattle.code_sweep.specs.declared.item.Item.{Item}
-use Rattle.code_sweep.specs.declared.item.Item.TheVariants.{Call}
 use Rattle.code_sweep.specs.declared.item.Placed.{Placed}
-use Rattle.taint_flow.specs.Label.{Label, IsAtMost, entry_label}
-use Rattle.taint_flow.specs.Flow.{Labelling, MeetsFlow, Leads, left_behind}
+use Rattle.taint_flow.specs.Label.{Label, IsAtMost}
+use Rattle.taint_flow.specs.Flow.{Labelling, MeetsFlow, Leads, left_behind, said_behind}
 use Rattle.taint_flow.specs.Bits.{label_of, labelling_of}
 use Rattle.taint_flow.specs.declared.label.Label.{Label as LabelBits}
 use Rattle.taint_flow.specs.declared.worklist.Worklist.{Worklist}
@@ -63,19 +61,10 @@ abbrev pub HandsOn : List Placed → ℕ → State → State → Type 0
 HandsOn items i s t =
     (j : ℕ) (p : Placed) → slice_get items i ≡ Some p → Leads items i j → IsAtMost (left_behind p.item (label_at s i)) (label_at t j)
 
--- behind each call word, of the first so many items, there is at least what it says
-abbrev pub HasEntries : List Placed → ℕ → State → Type 0
-HasEntries items count s =
-    (i : ℕ) (p : Placed) (bits : ℕ) → i < count → slice_get items i ≡ Some p → p.item ≡ Call bits → IsAtMost (entry_label bits) (label_at s (suc i))
-
--- the item behind a call word, and what the word says of it
-abbrev pub behind_word : Item → ℕ → Option ℕ
-behind_word (Call bits) i = Some (i + 1)
-behind_word _ i = None
-
-abbrev pub word_label : Item → Label
-word_label (Call bits) = entry_label bits
-word_label _ = label_of 0
+-- behind each word, of the first so many items, there is at least what it says
+abbrev pub HasWords : List Placed → ℕ → State → Type 0
+HasWords items count s =
+    (i : ℕ) (p : Placed) (l : Label) → i < count → slice_get items i ≡ Some p → said_behind p.item ≡ Some l → IsAtMost l (label_at s (suc i))
 
 -- no label rises above what every labelling has that meets the flow rules
 abbrev pub StaysLeast : List Placed → State → State → Type 0
@@ -90,6 +79,6 @@ pub record IsFresh (count : ℕ) (s : State) : Type 0 where
 -- what the search for the least labelling keeps: no label is too high, and what is not queued has handed on
 pub record IsSound (items : List Placed) (s : State) : Type 0 where
   pub whole : IsWhole (length items) s
-  pub entries : HasEntries items (length items) s
+  pub words : HasWords items (length items) s
   pub done : (i : ℕ) → is_queued s i ≡ false → HandsOn items i s s
   pub below : (any : Labelling) → MeetsFlow items any → IsBelow s any

@@ -1,6 +1,7 @@
 -- Runs of the machine: configurations, steps, views, starts, and noninterference.
 pub use Rattle.cv_word.specs.Words
 pub use Rattle.cv_word.specs.MemoryMap
+pub use Rattle.cv_word.specs.Gates
 pub use Rattle.cv_word.specs.Arithmetic
 pub use Rattle.x64_decode.specs.Spelling
 pub use Rattle.x64_decode.specs.Reading
@@ -11,6 +12,7 @@ pub use Rattle.code_sweep.specs.Units
 pub use Rattle.code_sweep.specs.Listing
 pub use Rattle.taint_flow.specs.Label
 pub use Rattle.taint_flow.specs.Flow
+pub use Rattle.taint_flow.specs.Calls
 pub use Rattle.image_form.specs.Image
 pub use Rattle.image_form.specs.Table
 pub use Rattle.image_form.specs.View
