@@ -16,17 +16,16 @@ use Rattle.code_sweep.specs.Units.{inverse, check_tail, check_then, return_unit,
 use Rattle.code_sweep.specs.declared.item.Item.{Item}
 use Rattle.code_sweep.specs.declared.item.Item.TheVariants.{Call, Ret, Plain, ReturnUnit, CallUnit}
 use Rattle.code_sweep.specs.declared.item.Placed.{Placed}
-use Rattle.code_sweep.specs.Listing.{IsChain, item_bytes, Begins, NoWord, NoReturnUnit, NoCallUnit, StandsAlone, StandsAt}
+use Rattle.code_sweep.specs.Listing.{IsChain, item_of, item_bytes, Begins, NoWord, NoReturnUnit, NoCallUnit, StandsAlone, StandsAt}
 
-pub call_found : (prefix bytes unit : List ℕ) (register bits : ℕ) → register < 16 → bits < 32 → length unit ≡ 42 →
+-- the bytes begin with the call unit of a register
+pub call_found : (prefix bytes unit : List ℕ) (r : Reg) (register bits : ℕ) → r ≡ reg_of register → register < 16 → bits < 32 → length unit ≡ 42 →
     unit ≡ rex false register 10 ∷ (0x89 ∷ (between register 10 ∷ check_then (call_word bits prefix) 0xd2)) → take (length unit) bytes ≡ unit →
-    (r : Reg) × (b : ℕ) × (b < 32) × (take 42 bytes ≡ call_unit prefix r b)
-call_found prefix bytes unit register bits small few long is found = (
-  reg_of register,
-  bits,
+    (bits < 32) × (take 42 bytes ≡ call_unit prefix r bits)
+call_found prefix bytes unit r register bits named small few long is found = (
   few,
   ap (λ n. take n bytes) (sym long) ∙ found ∙ is
-      ∙ ap (λ n. rex false n 10 ∷ (0x89 ∷ (between n 10 ∷ check_then (call_word bits prefix) 0xd2))) (sym (number_reg register small)),
+      ∙ ap (λ n. rex false n 10 ∷ (0x89 ∷ (between n 10 ∷ check_then (call_word bits prefix) 0xd2))) (sym (number_reg register small) ∙ ap number (sym named)),
 )
 
 -- ---- words
@@ -63,53 +62,27 @@ kinds_differ a b e f same = omega arith
 two_kinds : (prefix bytes : List ℕ) (bits bit : ℕ) → BeginsWord bytes prefix (word.Call bits) → BeginsWord bytes prefix (word.Ret bit) → ⊥
 two_kinds prefix bytes bits bit a b = kinds_differ 0x11 0x22 refl refl (second_cell bits 0x11 bit 0x22 prefix prefix (sym a.stands ∙ b.stands))
 
--- what a word at a place makes of it
-pub record WordItem (w : Word) (place : ℕ) (r : Option (Item × ℕ)) : Type 0 where
-  pub call : (bits : ℕ) → w ≡ word.Call bits → place ≡ 0 → r ≡ Some (Call bits, 8)
-  pub other : ((bits : ℕ) → w ≡ word.Call bits → place ≡ 0 → ⊥) → r ≡ None
+-- the item that a word is stands there
+pub word_stands : (prefix code : List ℕ) (place : ℕ) (w : Word) → length prefix ≡ 6 → place < length code → BeginsWord (drop place code) prefix w →
+    StandsAt prefix code place (item_of w)
+word_stands prefix code place (word.Call bits) six inside b = record { inside = inside; is = call_begins prefix (drop place code) bits six b }
+word_stands prefix code place (word.Ret bit) six inside b = record { inside = inside; is = ret_begins prefix (drop place code) bit six b }
 
--- the item that a word gives stands there
-abbrev pub Stands : List ℕ → List ℕ → ℕ → Option (Item × ℕ) → Type 0
-Stands prefix code place r = IfSome r (λ x. StandsAt prefix code place x.0 × (x.1 ≡ length (item_bytes prefix x.0)))
-
-not_call : (bit : ℕ) (bits : ℕ) → word.Ret bit ≡ word.Call bits → ⊥
-not_call bit bits e = cc
-
-same_bits : (a b : ℕ) → word.Call a ≡ word.Call b → a ≡ b
-same_bits a b e = cc
-
-pub word_stands : (prefix code : List ℕ) (place : ℕ) (w : Word) (r : Option (Item × ℕ)) → length prefix ≡ 6 → place < length code → BeginsWord (drop place code) prefix w → WordItem w place r → Stands prefix code place r
+pub word_length : (prefix : List ℕ) (w : Word) → length prefix ≡ 6 → 8 ≡ length (item_bytes prefix (item_of w))
 unfolding item_bytes
-word_stands prefix code place (word.Call bits) r six inside b is =
-    elim (cases_eq place 0) [
-      | inl zero ↦ subst (λ (x : Option (Item × ℕ)). Stands prefix code place x) (sym (is.call bits refl zero))
-          (record { inside = inside; is = call_begins prefix (drop place code) bits six b; admitted = zero }, omega arith)
-      | inr later ↦ subst (λ (x : Option (Item × ℕ)). Stands prefix code place x) (sym (is.other (λ n e z. later z))) tt
-    ]
-word_stands prefix code place (word.Ret bit) r six inside b is =
-    subst (λ (x : Option (Item × ℕ)). Stands prefix code place x) (sym (is.other (λ n e z. not_call bit n e))) tt
+word_length prefix (word.Call bits) six = omega arith
+word_length prefix (word.Ret bit) six = omega arith
+
+pub word_fits : (prefix code : List ℕ) (place : ℕ) (w : Word) → length prefix ≡ 6 → place < length code → BeginsWord (drop place code) prefix w → place + 8 ≤ length code
+word_fits prefix code place (word.Call bits) six inside b =
+    let e : length (take 8 (drop place code)) ≡ suc (suc (length prefix)) = ap length b.stands in
+    omega (arith, six, e, length-take 8 (drop place code), length-drop place code)
+word_fits prefix code place (word.Ret bit) six inside b =
+    let e : length (take 8 (drop place code)) ≡ suc (suc (length prefix)) = ap length b.stands in
+    omega (arith, six, e, length-take 8 (drop place code), length-drop place code)
 
 some_none : {A : Type 0} (x : A) → (let o : Option A = Some x in o) ≡ None → ⊥
 some_none x e = cc
-
--- where a word gives no item, none stands there
-pub word_none : (prefix code : List ℕ) (place : ℕ) (w : Word) (r : Option (Item × ℕ)) → length prefix ≡ 6 → BeginsWord (drop place code) prefix w → WordItem w place r → r ≡ None → (item : Item) → StandsAt prefix code place item → ⊥
-word_none prefix code place (word.Call b) r six begins is none (Call bits) s = some_none (Call b, 8) (sym (is.call b refl s.admitted) ∙ none)
-word_none prefix code place (word.Ret b) r six begins is none (Call bits) s = two_kinds prefix (drop place code) bits b (begins_call prefix (drop place code) bits six s.is) begins
-word_none prefix code place (word.Call b) r six begins is none (Plain i) s = (s.is.0 b).0 (call_begins prefix (drop place code) b six begins)
-word_none prefix code place (word.Ret b) r six begins is none (Plain i) s = (s.is.0 b).1 (ret_begins prefix (drop place code) b six begins)
-word_none prefix code place w r six begins is none (Ret bit) s = s.admitted
-word_none prefix code place w r six begins is none (ReturnUnit bit) s = s.admitted
-word_none prefix code place w r six begins is none (CallUnit reg bits) s = s.admitted
-
--- ---- where no word begins, only an instruction can stand
-pub only_plain : (prefix code : List ℕ) (place : ℕ) → length prefix ≡ 6 → ((w : Word) → BeginsWord (drop place code) prefix w → ⊥) →
-    ((i : Instr) → StandsAt prefix code place (Plain i) → ⊥) → (item : Item) → StandsAt prefix code place item → ⊥
-only_plain prefix code place six none plain (Call bits) s = none (word.Call bits) (begins_call prefix (drop place code) bits six s.is)
-only_plain prefix code place six none plain (Plain i) s = plain i s
-only_plain prefix code place six none plain (Ret bit) s = s.admitted
-only_plain prefix code place six none plain (ReturnUnit bit) s = s.admitted
-only_plain prefix code place six none plain (CallUnit r bits) s = s.admitted
 
 -- ---- units by their lengths
 
@@ -141,19 +114,64 @@ no_return prefix bytes six none bit b = none bit b.0 (begins_return prefix bytes
 pub no_call : (prefix bytes : List ℕ) → length prefix ≡ 6 → ((r : Reg) (bits : ℕ) → bits < 32 → take 42 bytes ≡ call_unit prefix r bits → ⊥) → NoCallUnit prefix bytes
 no_call prefix bytes six none r bits b = none r bits b.0 (begins_call_unit prefix bytes r bits six b)
 
--- ---- the exits of `item_at`
+-- ---- the exits of `item_at`, where no word begins
 
 -- a return unit stands here
-pub at_return : (prefix code bytes : List ℕ) (place : ℕ) → bytes ≡ drop place code → length prefix ≡ 6 → ((w : Word) → BeginsWord (drop place code) prefix w → ⊥) →
-    (bit : ℕ) × (bit < 2) × (take 56 bytes ≡ return_unit prefix bit) → (item : Item) → StandsAt prefix code place item → ⊥
-at_return prefix code bytes place same six none found =
-    only_plain prefix code place six none (λ i s. s.is.1 found.0 (return_begins prefix (drop place code) found.0 six found.1 (ap (λ l. take 56 l) (sym same) ∙ found.2)))
+pub at_return : (prefix code bytes : List ℕ) (place bit : ℕ) → bytes ≡ drop place code → length prefix ≡ 6 → place < length code →
+    ((w : Word) → BeginsWord (drop place code) prefix w → ⊥) → (bit < 2) × (take 56 bytes ≡ return_unit prefix bit) →
+    StandsAt prefix code place (ReturnUnit bit)
+at_return prefix code bytes place bit same six inside none found = record {
+  inside = inside;
+  is = (no_word prefix (drop place code) six none, return_begins prefix (drop place code) bit six found.0 (ap (λ l. take 56 l) (sym same) ∙ found.1));
+}
+
+pub return_item_length : (prefix : List ℕ) (bit : ℕ) → length prefix ≡ 6 → 56 ≡ length (item_bytes prefix (ReturnUnit bit))
+unfolding item_bytes
+return_item_length prefix bit six = sym (return_length prefix bit six)
+
+pub unit_fits : (code bytes unit : List ℕ) (place n : ℕ) → bytes ≡ drop place code → place < length code → take n bytes ≡ unit → length unit ≡ n → place + n ≤ length code
+unit_fits code bytes unit place n same inside stands long =
+    let e : length (take n bytes) ≡ n = ap length stands ∙ long in
+    let f : length bytes ≡ length (drop place code) = ap length same in
+    omega (arith, e, f, length-take n bytes, length-drop place code)
+
+pub return_fits : (prefix code bytes : List ℕ) (place bit : ℕ) → bytes ≡ drop place code → length prefix ≡ 6 → place < length code →
+    (bit < 2) × (take 56 bytes ≡ return_unit prefix bit) → place + 56 ≤ length code
+return_fits prefix code bytes place bit same six inside found = unit_fits code bytes (return_unit prefix bit) place 56 same inside found.1 (return_length prefix bit six)
 
 -- a call unit stands here
-pub at_call : (prefix code bytes : List ℕ) (place : ℕ) → bytes ≡ drop place code → length prefix ≡ 6 → ((w : Word) → BeginsWord (drop place code) prefix w → ⊥) →
-    (r : Reg) × (bits : ℕ) × (bits < 32) × (take 42 bytes ≡ call_unit prefix r bits) → (item : Item) → StandsAt prefix code place item → ⊥
-at_call prefix code bytes place same six none found =
-    only_plain prefix code place six none (λ i s. s.is.2 found.0 found.1 (call_unit_begins prefix (drop place code) found.0 found.1 six found.2 (ap (λ l. take 42 l) (sym same) ∙ found.3)))
+pub at_call : (prefix code bytes : List ℕ) (place : ℕ) (r : Reg) (bits : ℕ) → bytes ≡ drop place code → length prefix ≡ 6 → place < length code →
+    ((w : Word) → BeginsWord (drop place code) prefix w → ⊥) → ((bit : ℕ) → bit < 2 → take 56 bytes ≡ return_unit prefix bit → ⊥) →
+    (bits < 32) × (take 42 bytes ≡ call_unit prefix r bits) → StandsAt prefix code place (CallUnit r bits)
+at_call prefix code bytes place r bits same six inside none no_ret found = record {
+  inside = inside;
+  is = (
+    no_word prefix (drop place code) six none,
+    no_return prefix (drop place code) six (λ bit h g. no_ret bit h (ap (λ l. take 56 l) same ∙ g)),
+    call_unit_begins prefix (drop place code) r bits six found.0 (ap (λ l. take 42 l) (sym same) ∙ found.1),
+  );
+}
+
+pub call_item_length : (prefix : List ℕ) (r : Reg) (bits : ℕ) → length prefix ≡ 6 → 42 ≡ length (item_bytes prefix (CallUnit r bits))
+unfolding item_bytes
+call_item_length prefix r bits six = sym (call_length prefix r bits six)
+
+pub call_fits : (prefix code bytes : List ℕ) (place : ℕ) (r : Reg) (bits : ℕ) → bytes ≡ drop place code → length prefix ≡ 6 → place < length code →
+    (bits < 32) × (take 42 bytes ≡ call_unit prefix r bits) → place + 42 ≤ length code
+call_fits prefix code bytes place r bits same six inside found = unit_fits code bytes (call_unit prefix r bits) place 42 same inside found.1 (call_length prefix r bits six)
+
+-- where neither a word nor a unit begins, only an instruction can stand
+pub only_plain : (prefix code bytes : List ℕ) (place : ℕ) → bytes ≡ drop place code → length prefix ≡ 6 → ((w : Word) → BeginsWord (drop place code) prefix w → ⊥) →
+    ((bit : ℕ) → bit < 2 → take 56 bytes ≡ return_unit prefix bit → ⊥) →
+    ((r : Reg) (bits : ℕ) → bits < 32 → take 42 bytes ≡ call_unit prefix r bits → ⊥) →
+    ((i : Instr) → StandsAt prefix code place (Plain i) → ⊥) → (item : Item) → StandsAt prefix code place item → ⊥
+only_plain prefix code bytes place same six none no_ret no_cal plain (Call bits) s = none (word.Call bits) (begins_call prefix (drop place code) bits six s.is)
+only_plain prefix code bytes place same six none no_ret no_cal plain (Ret bit) s = none (word.Ret bit) (begins_ret prefix (drop place code) bit six s.is)
+only_plain prefix code bytes place same six none no_ret no_cal plain (ReturnUnit bit) s =
+    no_ret bit s.is.1.0 (ap (λ l. take 56 l) same ∙ begins_return prefix (drop place code) bit six s.is.1)
+only_plain prefix code bytes place same six none no_ret no_cal plain (CallUnit r bits) s =
+    no_cal r bits s.is.2.0 (ap (λ l. take 42 l) same ∙ begins_call_unit prefix (drop place code) r bits six s.is.2)
+only_plain prefix code bytes place same six none no_ret no_cal plain (Plain i) s = plain i s
 
 abbrev pub with_length : Option Instr → Option (Instr × ℕ)
 with_length o = option_map (λ (i : Instr). let r : Instr × ℕ = (i, length (spelling i)) in r) o
@@ -175,20 +193,24 @@ length_of (Some j) i n e =
     ap (λ (q : Instr × ℕ). q.1) pair ∙ ap (λ x. length (spelling x)) (sym (ap (λ (q : Instr × ℕ). q.0) pair))
 
 -- nothing decodes here
-pub at_nothing : (prefix code : List ℕ) (place : ℕ) → length prefix ≡ 6 → ((w : Word) → BeginsWord (drop place code) prefix w → ⊥) →
+pub at_nothing : (prefix code bytes : List ℕ) (place : ℕ) → bytes ≡ drop place code → length prefix ≡ 6 → ((w : Word) → BeginsWord (drop place code) prefix w → ⊥) →
+    ((bit : ℕ) → bit < 2 → take 56 bytes ≡ return_unit prefix bit → ⊥) →
+    ((r : Reg) (bits : ℕ) → bits < 32 → take 42 bytes ≡ call_unit prefix r bits → ⊥) →
     (let r : Option (Instr × ℕ) = None in r) ≡ with_length (instruction_at (drop place code)) → (item : Item) → StandsAt prefix code place item → ⊥
-at_nothing prefix code place six none e =
-    only_plain prefix code place six none (λ i s. some_none i (sym s.is.3 ∙ none_of (instruction_at (drop place code)) e))
+at_nothing prefix code bytes place same six none no_ret no_cal e =
+    only_plain prefix code bytes place same six none no_ret no_cal (λ i s. some_none i (sym s.is.3 ∙ none_of (instruction_at (drop place code)) e))
 
 -- an instruction that may not stand alone decodes here
 same_some : (i j : Instr) → (let o : Option Instr = Some i in o) ≡ Some j → i ≡ j
 same_some i j e = cc
 
-pub at_other : (prefix code : List ℕ) (place : ℕ) (i : Instr) (n : ℕ) → length prefix ≡ 6 → ((w : Word) → BeginsWord (drop place code) prefix w → ⊥) →
+pub at_other : (prefix code bytes : List ℕ) (place : ℕ) (i : Instr) (n : ℕ) → bytes ≡ drop place code → length prefix ≡ 6 → ((w : Word) → BeginsWord (drop place code) prefix w → ⊥) →
+    ((bit : ℕ) → bit < 2 → take 56 bytes ≡ return_unit prefix bit → ⊥) →
+    ((r : Reg) (bits : ℕ) → bits < 32 → take 42 bytes ≡ call_unit prefix r bits → ⊥) →
     (let r : Option (Instr × ℕ) = Some (i, n) in r) ≡ with_length (instruction_at (drop place code)) → (StandsAlone i → ⊥) → (item : Item) → StandsAt prefix code place item → ⊥
-at_other prefix code place i n six none e alone =
-    only_plain prefix code place six none (λ j s.
-    alone (subst (λ x. StandsAlone x) (same_some j i (sym s.is.3 ∙ some_of (instruction_at (drop place code)) i n e)) s.admitted))
+at_other prefix code bytes place i n same six none no_ret no_cal e alone =
+    only_plain prefix code bytes place same six none no_ret no_cal (λ j s.
+    alone (subst (λ x. StandsAlone x) (same_some j i (sym s.is.3 ∙ some_of (instruction_at (drop place code)) i n e)) s.is.4))
 
 -- an instruction stands here
 pub at_plain : (prefix code bytes : List ℕ) (place : ℕ) (i : Instr) (n : ℕ) → bytes ≡ drop place code → length prefix ≡ 6 → place < length code → ((w : Word) → BeginsWord (drop place code) prefix w → ⊥) →
@@ -197,66 +219,12 @@ pub at_plain : (prefix code bytes : List ℕ) (place : ℕ) (i : Instr) (n : ℕ
     (let r : Option (Instr × ℕ) = Some (i, n) in r) ≡ with_length (instruction_at (drop place code)) → StandsAlone i → StandsAt prefix code place (Plain i)
 at_plain prefix code bytes place i n same six inside none no_ret no_cal e alone = record {
   inside = inside;
-  is = (no_word prefix (drop place code) six none, no_return prefix (drop place code) six (λ bit h g. no_ret bit h (ap (λ l. take 56 l) same ∙ g)), no_call prefix (drop place code) six (λ r bits h g. no_cal r bits h (ap (λ l. take 42 l) same ∙ g)), some_of (instruction_at (drop place code)) i n e);
-  admitted = alone;
+  is = (no_word prefix (drop place code) six none, no_return prefix (drop place code) six (λ bit h g. no_ret bit h (ap (λ l. take 56 l) same ∙ g)), no_call prefix (drop place code) six (λ r bits h g. no_cal r bits h (ap (λ l. take 42 l) same ∙ g)), some_of (instruction_at (drop place code)) i n e, alone);
 }
 
 pub plain_length : (prefix code : List ℕ) (place : ℕ) (i : Instr) (n : ℕ) → (let r : Option (Instr × ℕ) = Some (i, n) in r) ≡ with_length (instruction_at (drop place code)) → n ≡ length (item_bytes prefix (Plain i))
 unfolding item_bytes
 plain_length prefix code place i n e = length_of (instruction_at (drop place code)) i n e
-
--- ---- the exit at a word, clause by clause
-
-stands_found : (prefix code : List ℕ) (place : ℕ) (r : Option (Item × ℕ)) → Stands prefix code place r → IfSome r (λ x. StandsAt prefix code place x.0)
-stands_found prefix code place None s = tt
-stands_found prefix code place (Some x) s = s.0
-
-stands_len : (prefix code : List ℕ) (place : ℕ) (r : Option (Item × ℕ)) → Stands prefix code place r → IfSome r (λ x. x.1 ≡ length (item_bytes prefix x.0))
-stands_len prefix code place None s = tt
-stands_len prefix code place (Some x) s = s.1
-
-pub word_found : (prefix code : List ℕ) (place : ℕ) (w : Word) (r : Option (Item × ℕ)) → length prefix ≡ 6 → place < length code → BeginsWord (drop place code) prefix w →
-    ((bits : ℕ) → w ≡ word.Call bits → place ≡ 0 → r ≡ Some (Call bits, 8)) → (((bits : ℕ) → w ≡ word.Call bits → place ≡ 0 → ⊥) → r ≡ None) →
-    IfSome r (λ x. StandsAt prefix code place x.0)
-word_found prefix code place w r six inside b call other = stands_found prefix code place r (word_stands prefix code place w r six inside b (record { call = call; other = other }))
-
-pub word_len : (prefix code : List ℕ) (place : ℕ) (w : Word) (r : Option (Item × ℕ)) → length prefix ≡ 6 → place < length code → BeginsWord (drop place code) prefix w →
-    ((bits : ℕ) → w ≡ word.Call bits → place ≡ 0 → r ≡ Some (Call bits, 8)) → (((bits : ℕ) → w ≡ word.Call bits → place ≡ 0 → ⊥) → r ≡ None) →
-    IfSome r (λ x. x.1 ≡ length (item_bytes prefix x.0))
-word_len prefix code place w r six inside b call other = stands_len prefix code place r (word_stands prefix code place w r six inside b (record { call = call; other = other }))
-
-nothing_from : (prefix code : List ℕ) (place : ℕ) (w : Word) (r : Option (Item × ℕ)) → length prefix ≡ 6 → BeginsWord (drop place code) prefix w → WordItem w place r →
-    IfNone r ((item : Item) → StandsAt prefix code place item → ⊥)
-nothing_from prefix code place w None six b is = word_none prefix code place w None six b is refl
-nothing_from prefix code place w (Some x) six b is = tt
-
-pub word_nothing : (prefix code : List ℕ) (place : ℕ) (w : Word) (r : Option (Item × ℕ)) → length prefix ≡ 6 → BeginsWord (drop place code) prefix w →
-    ((bits : ℕ) → w ≡ word.Call bits → place ≡ 0 → r ≡ Some (Call bits, 8)) → (((bits : ℕ) → w ≡ word.Call bits → place ≡ 0 → ⊥) → r ≡ None) →
-    IfNone r ((item : Item) → StandsAt prefix code place item → ⊥)
-word_nothing prefix code place w r six b call other = nothing_from prefix code place w r six b (record { call = call; other = other })
-
-word_fits : (prefix code : List ℕ) (place : ℕ) (w : Word) → length prefix ≡ 6 → place < length code → BeginsWord (drop place code) prefix w → place + 8 ≤ length code
-word_fits prefix code place (word.Call bits) six inside b =
-    let e : length (take 8 (drop place code)) ≡ suc (suc (length prefix)) = ap length b.stands in
-    omega (arith, six, e, length-take 8 (drop place code), length-drop place code)
-word_fits prefix code place (word.Ret bit) six inside b =
-    let e : length (take 8 (drop place code)) ≡ suc (suc (length prefix)) = ap length b.stands in
-    omega (arith, six, e, length-take 8 (drop place code), length-drop place code)
-
-inside_from : (prefix code : List ℕ) (place : ℕ) (r : Option (Item × ℕ)) → length prefix ≡ 6 → place + 8 ≤ length code → (r ≡ None) ⊎ ((bits : ℕ) × (r ≡ Some (Call bits, 8))) →
-    IfSome r (λ x. (0 < x.1) × (place + x.1 ≤ length code))
-inside_from prefix code place r six fits (inl e) = subst (λ (x : Option (Item × ℕ)). IfSome x (λ y. (0 < y.1) × (place + y.1 ≤ length code))) (sym e) tt
-inside_from prefix code place r six fits (inr e) = subst (λ (x : Option (Item × ℕ)). IfSome x (λ y. (0 < y.1) × (place + y.1 ≤ length code))) (sym e.1) (omega arith, fits)
-
-either_way : (w : Word) (place : ℕ) (r : Option (Item × ℕ)) → ((bits : ℕ) → w ≡ word.Call bits → place ≡ 0 → r ≡ Some (Call bits, 8)) → (((bits : ℕ) → w ≡ word.Call bits → place ≡ 0 → ⊥) → r ≡ None) →
-    (r ≡ None) ⊎ ((bits : ℕ) × (r ≡ Some (Call bits, 8)))
-either_way (word.Call bits) place r call other = elim (cases_eq place 0) [ inl zero ↦ inr (bits, call bits refl zero) | inr later ↦ inl (other (λ n e z. later z)) ]
-either_way (word.Ret bit) place r call other = inl (other (λ n e z. not_call bit n e))
-
-pub word_inside : (prefix code : List ℕ) (place : ℕ) (w : Word) (r : Option (Item × ℕ)) → length prefix ≡ 6 → place < length code → BeginsWord (drop place code) prefix w →
-    ((bits : ℕ) → w ≡ word.Call bits → place ≡ 0 → r ≡ Some (Call bits, 8)) → (((bits : ℕ) → w ≡ word.Call bits → place ≡ 0 → ⊥) → r ≡ None) →
-    IfSome r (λ x. (0 < x.1) × (place + x.1 ≤ length code))
-word_inside prefix code place w r six inside b call other = inside_from prefix code place r six (word_fits prefix code place w six inside b) (either_way w place r call other)
 
 -- ---- chains
 

@@ -13,6 +13,11 @@ use Rattle.code_sweep.specs.declared.item.Item.{Item}
 use Rattle.code_sweep.specs.declared.item.Item.TheVariants.{Call, Ret, Plain, ReturnUnit, CallUnit}
 use Rattle.code_sweep.specs.declared.item.Placed.{Placed}
 
+-- the item that a word is
+abbrev pub item_of : Word → Item
+item_of (word.Call bits) = Call bits
+item_of (word.Ret bit) = Ret bit
+
 -- the bytes of an item
 unfoldable pub item_bytes : List ℕ → Item → List ℕ
 item_bytes prefix (Call bits) = call_word bits prefix

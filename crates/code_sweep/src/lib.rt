@@ -1,8 +1,8 @@
 //! A code as one chain of items: words, check units and plain instructions.
 //!
 //! `sweep` answers the chain that begins at the code's first byte, or the first place in it where no item
-//! begins. So far a call word at the first byte and the instructions that neither call nor belong to check
-//! units are admitted; everything else is no item.
+//! begins. At a place stands a word if one begins there, else a return unit, else a call unit, else the
+//! instruction that decodes there, unless it is one of the three that belong to check units alone.
 #![tactic(auto)]
 
 mod item;

@@ -3,10 +3,10 @@
 ghost use Rattle.std.specs.Prelude.{◌≡◌, IfSome, IfNone, IsTrue, false, Some, None, Option, ◌<◌, ◌≤◌, ◌+◌, length, drop};
 ghost use Rattle.code_sweep.specs.declared.item.Item.{Item};
 ghost use Rattle.std.specs.Prelude.{ℕ};
-ghost use Rattle.code_sweep.specs.Listing.{StandsAt, StandsAlone, item_bytes};
+ghost use Rattle.code_sweep.specs.Listing.{StandsAt, StandsAlone, item_bytes, item_of};
 
 use crate::item::Item;
-use crate::unit::{is_call_unit, is_return_unit};
+use crate::unit::{call_unit_parts, return_unit_bit};
 use magic_words::{Word, read_word};
 use x64_decode::{Instr, decode};
 
@@ -17,7 +17,7 @@ fn bytes_from(code: &[u8], at: usize) -> &[u8]
     if at < code.len() { &code[at..] } else { &[] }
 }
 
-/// Whether the instruction may stand outside a check unit, and isn't a call.
+/// Whether the instruction may stand outside a check unit.
 fn stands_alone(i: &Instr) -> bool
     ensures yes { IsTrue result → StandsAlone i.now }
     ensures no { result ≡ false → StandsAlone i.now → ⊥ }
@@ -26,7 +26,6 @@ fn stands_alone(i: &Instr) -> bool
         Instr::CmpFlat => false,
         Instr::JmpR10 => false,
         Instr::CallR10 => false,
-        Instr::Call { .. } => false,
         _ => true,
     }
 }
@@ -43,14 +42,14 @@ pub fn item_at(code: &[u8], at: usize, prefix: [u8; 6]) -> Option<(Item, u8)>
         return None;
     }
     if let Some(word) = read_word(code, at, prefix) {
-        return word_item(word, at);
+        return Some((word_item(word), 8));
     }
     let bytes = bytes_from(code, at);
-    if is_return_unit(bytes, prefix) {
-        return None;
+    if let Some(bit) = return_unit_bit(bytes, prefix) {
+        return Some((Item::ReturnUnit(bit), 56));
     }
-    if is_call_unit(bytes, prefix) {
-        return None;
+    if let Some((r, bits)) = call_unit_parts(bytes, prefix) {
+        return Some((Item::CallUnit(r, bits), 42));
     }
     let Some((i, len)) = decode(code, at) else {
         return None;
@@ -62,17 +61,12 @@ pub fn item_at(code: &[u8], at: usize, prefix: [u8; 6]) -> Option<(Item, u8)>
     }
 }
 
-/// A call word is an item at the first byte alone.
-fn word_item(word: Word, at: usize) -> Option<(Item, u8)>
-    ensures call { (bits : ℕ) → word ≡ Word.Call bits → at ≡ 0 → result ≡ Some (Item.Call bits, 8) }
-    ensures other { ((bits : ℕ) → word ≡ Word.Call bits → at ≡ 0 → ⊥) → result ≡ None }
+/// The item that a word is.
+fn word_item(word: Word) -> Item
+    ensures { result ≡ item_of word }
 {
     match word {
-        Word::Call(bits) => if at == 0 {
-            Some((Item::Call(bits), 8))
-        } else {
-            None
-        },
-        Word::Ret(_) => None,
+        Word::Call(bits) => Item::Call(bits),
+        Word::Ret(bit) => Item::Ret(bit),
     }
 }

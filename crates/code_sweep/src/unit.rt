@@ -1,18 +1,13 @@
 //! Check units, by their bytes.
 
-ghost use Rattle.std.specs.Prelude.{◌≡◌, ◌+◌, ◌*◌, ◌/◌, ◌%◌, ◌-◌, ◌<◌, ◌≤◌, ◌↔◌, ◌∷◌, ◌++◌, ℕ, IsTrue, false, length, take, drop, map};
+ghost use Rattle.std.specs.Prelude.{◌≡◌, ◌+◌, ◌*◌, ◌/◌, ◌%◌, ◌-◌, ◌<◌, ◌≤◌, ◌↔◌, ◌∷◌, ◌++◌, ℕ, IsTrue, false, IfSome, IfNone, length, take, drop, map};
 ghost use Rattle.x64_decode.specs.declared.instr.Reg.{Reg};
 ghost use Rattle.x64_decode.specs.Spelling.{rex, between};
 ghost use Rattle.code_sweep.specs.Units.{inverse, check_then, return_unit, call_unit};
 ghost use Rattle.magic_words.specs.MagicWords.{call_word, return_word};
 
 use magic_words::{call_word, return_word};
-
-/// How many bytes a return unit has.
-pub const RETURN_UNIT: usize = 56;
-
-/// How many bytes a call unit has.
-pub const CALL_UNIT: usize = 42;
+use x64_decode::{Reg, register};
 
 /// Each byte of a word inverted.
 fn inverted(word: [u8; 8]) -> [u8; 8]
@@ -104,28 +99,39 @@ fn starts(bytes: &[u8], front: &[u8]) -> bool
     bytes.len() >= front.len() && &bytes[..front.len()] == front
 }
 
-/// Whether a return unit begins here.
-pub fn is_return_unit(bytes: &[u8], prefix: [u8; 6]) -> bool
-    ensures yes { IsTrue result → (bit : ℕ) × (bit < 2) × (take 56 bytes.now ≡ return_unit prefix bit) }
-    ensures no { result ≡ false → (bit : ℕ) → bit < 2 → take 56 bytes.now ≡ return_unit prefix bit → ⊥ }
+/// The bit of the return unit that begins here, if one does.
+pub fn return_unit_bit(bytes: &[u8], prefix: [u8; 6]) -> Option<u8>
+    ensures found { IfSome result (λ bit. (bit < 2) × (take 56 bytes.now ≡ return_unit prefix bit)) }
+    ensures none { IfNone result ((bit : ℕ) → bit < 2 → take 56 bytes.now ≡ return_unit prefix bit → ⊥) }
 {
     if bytes.is_empty() || bytes[0] != 0x64 {
-        return false;
+        return None;
     }
-    starts(bytes, &return_unit_bytes(prefix, 0)) || starts(bytes, &return_unit_bytes(prefix, 1))
+    if starts(bytes, &return_unit_bytes(prefix, 0)) {
+        return Some(0);
+    }
+    if starts(bytes, &return_unit_bytes(prefix, 1)) {
+        return Some(1);
+    }
+    None
 }
 
-/// Whether a call unit begins here.
-pub fn is_call_unit(bytes: &[u8], prefix: [u8; 6]) -> bool
-    ensures yes { IsTrue result → (r : Reg) × (bits : ℕ) × (bits < 32) × (take 42 bytes.now ≡ call_unit prefix r bits) }
-    ensures no { result ≡ false → (r : Reg) (bits : ℕ) → bits < 32 → take 42 bytes.now ≡ call_unit prefix r bits → ⊥ }
+/// The register and the bits of the call unit that begins here, if one does.
+pub fn call_unit_parts(bytes: &[u8], prefix: [u8; 6]) -> Option<(Reg, u8)>
+    ensures found { IfSome result (λ p. (p.1 < 32) × (take 42 bytes.now ≡ call_unit prefix p.0 p.1)) }
+    ensures none { IfNone result ((r : Reg) (bits : ℕ) → bits < 32 → take 42 bytes.now ≡ call_unit prefix r bits → ⊥) }
 {
     let [b, opcode, modrm, c, d, inverse, ..] = bytes else {
-        return false;
+        return None;
     };
     if *opcode != 0x89 || *c != 0x49 || *d != 0xbb || *inverse < 224 {
-        return false;
+        return None;
     }
-    let register = 8 * (*b / 4 % 2) + *modrm / 8 % 8;
-    starts(bytes, &call_unit_bytes(prefix, register, 255 - *inverse))
+    let number = 8 * (*b / 4 % 2) + *modrm / 8 % 8;
+    let bits = 255 - *inverse;
+    if starts(bytes, &call_unit_bytes(prefix, number, bits)) {
+        Some((register(number), bits))
+    } else {
+        None
+    }
 }

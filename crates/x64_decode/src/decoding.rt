@@ -47,7 +47,7 @@ use crate::instr::{AluOp, Cond, Instr, Mem, Reg, Seg, ShiftOp, Width};
 
 /// The register of a number below 16.
 #[tactic(auto, unfolding(crate::specs::Reading::reg_of))]
-fn register(n: u8) -> Reg
+pub fn register(n: u8) -> Reg
     ensures { result ≡ reg_of n }
 {
     match n {

@@ -9,7 +9,7 @@ mod decoding;
 mod instr;
 mod law;
 
-pub use decoding::decode;
+pub use decoding::{decode, register};
 pub use instr::{AluOp, Cond, Instr, Mem, Reg, Seg, ShiftOp, Width};
 pub use law::table_law;
 
