@@ -1,5 +1,5 @@
 -- A chain of items stands in order.
-use Rattle.std.proofs.Common.{◌≡◌, ℕ, zero, suc, ◌+◌, ◌<◌, ◌≤◌, List, [], ◌∷◌, length, ap, arith, Some}
+use Rattle.std.proofs.Common.{◌∙◌, ◌≡◌, ℕ, zero, suc, ◌+◌, ◌<◌, ◌≤◌, List, [], ◌∷◌, length, ap, arith, Some}
 use Rattle.std.specs.List.{slice_get}
 use Rattle.std.proofs.lemmas.Option.{same_Some, none-some}
 use Rattle.x64_decode.specs.Spelling.{spelling}
@@ -7,10 +7,11 @@ use Rattle.x64_decode.specs.declared.instr.Instr.{Instr}
 use Rattle.x64_decode.specs.declared.instr.Instr.TheVariants as instr
 use Rattle.x64_decode.specs.declared.instr.Instr.TheVariants.{Alu, AluImm, CallR10, Cmov, CmpFlat, Cqo, Idiv, Imul, Jcc, Jmp, JmpR10, Load, LoadSx32, LoadSx8, LoadZx8, Mov, MovImm32, MovImm64, MovImmS, Movsx8, Movsxd, Movzx8, Neg, Nop, Not, Setcc, ShiftCl, ShiftImm, Store, Test, Ud2}
 use Rattle.code_sweep.specs.declared.item.Item.{Item}
-use Rattle.code_sweep.specs.declared.item.Item.TheVariants.{Plain}
+use Rattle.code_sweep.specs.declared.item.Item.TheVariants.{Call, Plain}
 use Rattle.code_sweep.specs.declared.item.Placed.{Placed}
 use Rattle.code_sweep.specs.Listing.{IsChain, IsListing, item_bytes}
-use Rattle.taint_flow.specs.Places.{StandInOrder}
+use Rattle.taint_flow.specs.Places.{StandInOrder, StandApart}
+use Rattle.taint_flow.specs.Calls.{AreEight}
 
 -- the items stand at places from one on, below another, each above the one before it
 abbrev pub RiseFrom : ℕ → List Placed → ℕ → Type 0
@@ -99,3 +100,45 @@ rise_from_chain prefix code (p ∷ ps) low from to h c =
 -- the items of a listing stand in order
 pub order_from_listing : (prefix code : List ℕ) (items : List Placed) → IsListing prefix code items → StandInOrder items code
 order_from_listing prefix code items c = order_from_rise items code (rise_from_chain prefix code items 0 0 (length code) (omega arith) c)
+
+-- ---- a later item begins behind an earlier one
+
+after_from : (prefix code : List ℕ) (items : List Placed) (from to i : ℕ) (p : Placed) → IsChain prefix code items from to → slice_get items i ≡ Some p → from ≤ p.at
+after_from prefix code [] from to i p c e = absurd (none-some p e)
+after_from prefix code (q ∷ qs) from to zero p c e =
+    let same : q.at ≡ p.at = ap (λ (x : Placed). x.at) (same_Some q p e) in let at : q.at ≡ from = c.0 in omega arith
+after_from prefix code (q ∷ qs) from to (suc i) p c e =
+    let h : from + q.len ≤ p.at = after_from prefix code qs (from + q.len) to i p c.3 e in omega arith
+
+apart_from : (prefix code : List ℕ) (items : List Placed) (from to i j : ℕ) (p q : Placed) → IsChain prefix code items from to →
+    slice_get items i ≡ Some p → slice_get items j ≡ Some q → i < j → p.at + p.len ≤ q.at
+apart_from prefix code [] from to i j p q c e f h = absurd (none-some p e)
+apart_from prefix code (x ∷ xs) from to zero zero p q c e f h = absurd (omega arith)
+apart_from prefix code (x ∷ xs) from to zero (suc j) p q c e f h =
+    let same : x.at ≡ p.at = ap (λ (y : Placed). y.at) (same_Some x p e) in
+    let long : x.len ≡ p.len = ap (λ (y : Placed). y.len) (same_Some x p e) in
+    let at : x.at ≡ from = c.0 in
+    let up : from + x.len ≤ q.at = after_from prefix code xs (from + x.len) to j q c.3 f in
+    omega arith
+apart_from prefix code (x ∷ xs) from to (suc i) zero p q c e f h = absurd (omega arith)
+apart_from prefix code (x ∷ xs) from to (suc i) (suc j) p q c e f h = apart_from prefix code xs (from + x.len) to i j p q c.3 e f (omega arith)
+
+-- the items of a listing stand apart
+pub apart_from_listing : (prefix code : List ℕ) (items : List Placed) → IsListing prefix code items → StandApart items
+apart_from_listing prefix code items c i j p q e f h = apart_from prefix code items 0 (length code) i j p q c e f h
+
+eight_from : (prefix code : List ℕ) (items : List Placed) (from to i bits : ℕ) (p : Placed) → length prefix ≡ 6 → IsChain prefix code items from to →
+    slice_get items i ≡ Some p → p.item ≡ Call bits → p.len ≡ 8
+unfolding item_bytes
+eight_from prefix code [] from to i bits p six c e is = absurd (none-some p e)
+eight_from prefix code (q ∷ qs) from to zero bits p six c e is =
+    let same : q ≡ p = same_Some q p e in
+    let long : q.len ≡ p.len = ap (λ (y : Placed). y.len) same in
+    let item : q.item ≡ Call bits = ap (λ (y : Placed). y.item) same ∙ is in
+    let bytes : q.len ≡ length (item_bytes prefix (Call bits)) = c.1 ∙ ap (λ x. length (item_bytes prefix x)) item in
+    omega arith
+eight_from prefix code (q ∷ qs) from to (suc i) bits p six c e is = eight_from prefix code qs (from + q.len) to i bits p six c.3 e is
+
+-- the call words of a listing have eight bytes
+pub eight_from_listing : (prefix code : List ℕ) (items : List Placed) → length prefix ≡ 6 → IsListing prefix code items → AreEight items
+eight_from_listing prefix code items six c i p bits e is = eight_from prefix code items 0 (length code) i bits p six c e is

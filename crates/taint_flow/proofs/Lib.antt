@@ -3,4 +3,5 @@ pub mod Joins
 pub mod Tables
 pub mod Monotone
 pub mod Sound
+pub mod Callees
 pub mod Chain

@@ -1,6 +1,7 @@
 -- The search for the least labelling: how it starts, what one item hands on, and what is kept.
 use Rattle.std.proofs.Common.{subst, ◌≡◌, ℕ, suc, ◌+◌, ◌-◌, ◌<◌, ◌≤◌, Bool, true, false, cond, eqb, List, [], ◌∷◌, ◌++◌, length, set, get_or, replicate, refl, sym, ◌∙◌, ap, arith, Option, Some, None, inl, inr, ◌⊎◌}
-use Rattle.std.specs.Prelude.{All, Contains}
+use Rattle.std.specs.Prelude.{All, Contains, unwrap_or}
+use Rattle.std.specs.Option.{option_map}
 use Rattle.std.specs.List.{slice_get}
 use Rattle.std.proofs.lemmas.Option.{same_Some, none-some, slice_get_within, cond_some}
 use Rattle.std.proofs.lemmas.Bool.{cases_eq, cases_lt, true≢false, cond-true, false_from_ne_true}
@@ -8,14 +9,14 @@ use Rattle.std.proofs.lemmas.List.{get_or-set_same, get_or-set_other, get_or-rep
 use Rattle.std.proofs.lemmas.List.Elements.{All-push, Contains-push, Contains-append_left, Contains-push_cases}
 use Rattle.cv_word.specs.MemoryMap.{code_base}
 use Rattle.code_sweep.specs.declared.item.Item.{Item}
-use Rattle.code_sweep.specs.declared.item.Item.TheVariants.{Call}
+use Rattle.code_sweep.specs.declared.item.Item.TheVariants.{Call, Ret}
 use Rattle.code_sweep.specs.declared.item.Placed.{Placed}
-use Rattle.taint_flow.specs.Label.{Label, IsAtMost, entry_label}
-use Rattle.taint_flow.specs.Flow.{Labelling, MeetsFlow, Leads, left_behind, falls_through, jump_target, address}
+use Rattle.taint_flow.specs.Label.{Label, IsAtMost}
+use Rattle.taint_flow.specs.Flow.{Labelling, MeetsFlow, Leads, left_behind, falls_through, jump_target, address, said_behind}
 use Rattle.taint_flow.specs.Bits.{label_of, labelling_of, public_bits}
 use Rattle.taint_flow.specs.declared.label.Label.{Label as LabelBits}
 use Rattle.taint_flow.specs.Places.{NextStands, NumbersItems, goes_on}
-use Rattle.taint_flow.specs.Worklist.{State, label_at, is_queued, IsWhole, IsBelow, Rises, TakesIn, StaysBelow, work_left, HandsOn, HasEntries, StaysLeast, IsFresh, IsSound, behind_word, word_label}
+use Rattle.taint_flow.specs.Worklist.{State, label_at, is_queued, IsWhole, IsBelow, Rises, TakesIn, StaysBelow, work_left, HandsOn, HasWords, StaysLeast, IsFresh, IsSound, behind_word, word_label}
 use Rattle.std.proofs.lemmas.Nat.Bits.{bit_at-zero}
 use Rattle.taint_flow.proofs.Joins.{read_label}
 use Rattle.taint_flow.proofs.Monotone.{left_behind_up}
@@ -61,6 +62,7 @@ target_leads items i p out s next target number h j e =
 
 goes : (item : Item) → falls_through item ≡ true → goes_on item ≡ true
 goes (Call bits) h = refl
+goes (Ret bit) h = refl
 goes _ h = h
 
 pub next_inside : (items : List Placed) (i : ℕ) (p : Placed) → slice_get items i ≡ Some p → NextStands items → (j : ℕ) →
@@ -168,7 +170,7 @@ pub sound_after : (items : List Placed) (s t : State) (i : ℕ) (rest : List ℕ
     Rises (popped s i rest) t → HandsOn items i (popped s i rest) t → StaysLeast items (popped s i rest) t → IsSound items t
 sound_after items s t i rest sound e r h least = record {
   whole = r.whole (length items) (whole_popped (length items) s i rest sound.whole e);
-  entries = λ k p bits small here is name one. r.higher (suc k) name (sound.entries k p bits small here is name one);
+  words = λ k p l small here is name one. r.higher (suc k) name (sound.words k p l small here is name one);
   done = λ k q. done_at items s t i k rest sound r h q (cases_eq k i);
   below = λ any meets. least any meets (sound.below any meets);
 }
@@ -253,9 +255,13 @@ hands_from items i p x out s next target number here small len e leaves n found 
   numbers = numbers;
 }
 
--- behind the call words
+-- behind the words
 behind_inside_at : (item : Item) (i n j : ℕ) → (goes_on item ≡ true → suc i < n) → behind_word item i ≡ Some j → j < n
 behind_inside_at (Call bits) i n j h e =
+    let same : i + 1 ≡ j = same_Some (i + 1) j e in
+    let small : suc i < n = h refl in
+    omega arith
+behind_inside_at (Ret bit) i n j h e =
     let same : i + 1 ≡ j = same_Some (i + 1) j e in
     let small : suc i < n = h refl in
     omega arith
@@ -265,46 +271,54 @@ pub behind_inside : (items : List Placed) (i : ℕ) (p : Placed) → slice_get i
     behind_word p.item i ≡ Some j → j < length items
 behind_inside items i p here n j e = behind_inside_at p.item i (length items) j (n i p here) e
 
-entry_at : (items : List Placed) (i k : ℕ) (p q : Placed) (bits : ℕ) (m t : State) → HasEntries items i m → Rises m t →
+-- what a word says is taken in behind it
+said_taken : (said : Option Label) (i : ℕ) (l : Label) (t : State) → said ≡ Some l →
+    TakesIn (option_map (λ (_ : Label). i + 1) said) (unwrap_or said (label_of 0)) t → IsAtMost l (label_at t (i + 1))
+said_taken None i l t e takes = absurd (none-some l e)
+said_taken (Some m) i l t e takes = along l m (label_at t (i + 1)) (sym (same_Some m l e)) (takes (i + 1) refl)
+
+word_at : (items : List Placed) (i k : ℕ) (p q : Placed) (l : Label) (m t : State) → HasWords items i m → Rises m t →
     TakesIn (behind_word p.item i) (word_label p.item) t → slice_get items i ≡ Some p → k < i + 1 → slice_get items k ≡ Some q →
-    q.item ≡ Call bits → (k ≡ i) ⊎ (k ≡ i → ⊥) → IsAtMost (entry_label bits) (label_at t (suc k))
-entry_at items i k p q bits m t before r takes here small there is (inl e) =
+    said_behind q.item ≡ Some l → (k ≡ i) ⊎ (k ≡ i → ⊥) → IsAtMost l (label_at t (suc k))
+word_at items i k p q l m t before r takes here small there is (inl e) =
     let same : p ≡ q = same_Some p q (sym here ∙ (ap (λ (n : ℕ). slice_get items n) (sym e) ∙ there)) in
-    let item : p.item ≡ Call bits = ap (λ (x : Placed). x.item) same ∙ is in
-    let takes_it : TakesIn (behind_word (Call bits) i) (word_label (Call bits)) t =
-    subst (λ (x : Item). TakesIn (behind_word x i) (word_label x) t) item takes in
+    let said : said_behind p.item ≡ Some l = ap (λ (x : Placed). said_behind x.item) same ∙ is in
     let next : i + 1 ≡ suc k = omega arith in
-    subst (λ (n : ℕ). IsAtMost (entry_label bits) (label_at t n)) next (takes_it (i + 1) refl)
-entry_at items i k p q bits m t before r takes here small there is (inr n) =
-    λ name one. r.higher (suc k) name (before k q bits (omega arith) there is name one)
+    subst (λ (n : ℕ). IsAtMost l (label_at t n)) next (said_taken (said_behind p.item) i l t said takes)
+word_at items i k p q l m t before r takes here small there is (inr n) =
+    λ name one. r.higher (suc k) name (before k q l (omega arith) there is name one)
 
-pub entries_more : (items : List Placed) (i : ℕ) (p : Placed) (m t : State) → HasEntries items i m → Rises m t →
-    TakesIn (behind_word p.item i) (word_label p.item) t → slice_get items i ≡ Some p → HasEntries items (i + 1) t
-entries_more items i p m t before r takes here k q bits small there is =
-    entry_at items i k p q bits m t before r takes here small there is (cases_eq k i)
+pub words_more : (items : List Placed) (i : ℕ) (p : Placed) (m t : State) → HasWords items i m → Rises m t →
+    TakesIn (behind_word p.item i) (word_label p.item) t → slice_get items i ≡ Some p → HasWords items (i + 1) t
+words_more items i p m t before r takes here k q l small there is =
+    word_at items i k p q l m t before r takes here small there is (cases_eq k i)
 
-word_below : (items : List Placed) (i : ℕ) (p : Placed) (any : Labelling) → MeetsFlow items any → slice_get items i ≡ Some p →
-    (item : Item) → p.item ≡ item → (j : ℕ) → behind_word item i ≡ Some j → IsAtMost (word_label item) (any j)
-word_below items i p any meets here (Call bits) is j e =
+said_below : (said : Option Label) (i j : ℕ) (any : Labelling) → ((l : Label) → said ≡ Some l → IsAtMost l (any (suc i))) →
+    option_map (λ (_ : Label). i + 1) said ≡ Some j → IsAtMost (unwrap_or said (label_of 0)) (any j)
+said_below None i j any h e = absurd (none-some j e)
+said_below (Some l) i j any h e =
     let same : i + 1 ≡ j = same_Some (i + 1) j e in
     let next : suc i ≡ j = omega arith in
-    subst (λ (n : ℕ). IsAtMost (entry_label bits) (any n)) next (meets.entry i p bits here is)
-word_below items i p any meets here _ is j e = absurd (none-some j e)
+    subst (λ (n : ℕ). IsAtMost l (any n)) next (h l refl)
+
+word_below : (items : List Placed) (i : ℕ) (p : Placed) (any : Labelling) → MeetsFlow items any → slice_get items i ≡ Some p →
+    (j : ℕ) → behind_word p.item i ≡ Some j → IsAtMost (word_label p.item) (any j)
+word_below items i p any meets here j e = said_below (said_behind p.item) i j any (λ l said. meets.words i p l here said) e
 
 pub least_more : (items : List Placed) (i : ℕ) (p : Placed) (s m t : State) → StaysLeast items s m →
     StaysBelow (behind_word p.item i) (word_label p.item) m t → slice_get items i ≡ Some p → StaysLeast items s t
 least_more items i p s m t least stays here any meets below =
-    stays any (word_below items i p any meets here p.item refl) (least any meets below)
+    stays any (word_below items i p any meets here) (least any meets below)
 
 -- the search begins and ends
 queued_apart : (b : Bool) → b ≡ true → b ≡ false → ⊥
 queued_apart b t f = true≢false (sym t ∙ f)
 
-pub sound_from_fresh : (items : List Placed) (s t : State) → IsFresh (length items) s → Rises s t → HasEntries items (length items) t →
+pub sound_from_fresh : (items : List Placed) (s t : State) → IsFresh (length items) s → Rises s t → HasWords items (length items) t →
     StaysLeast items s t → IsSound items t
-sound_from_fresh items s t fresh r entries least = record {
+sound_from_fresh items s t fresh r words least = record {
   whole = r.whole (length items) fresh.whole;
-  entries = entries;
+  words = words;
   done = λ k q j p here lead.
       absurd (queued_apart (is_queued s k) (fresh.all_queued k (slice_get_within items k p here)) (r.told k q).0);
   below = λ any meets. least any meets (λ k name one. absurd (true≢false (sym one ∙ fresh.public k name)));
@@ -319,11 +333,11 @@ unqueued items s sound e i =
 
 pub meets_at_end : (items : List Placed) (s : State) → IsSound items s → s.stack ≡ [] → MeetsFlow items (label_at s)
 meets_at_end items s sound e = record {
-  entry = λ i p bits here is. sound.entries i p bits (slice_get_within items i p here) here is;
+  words = λ i p l here is. sound.words i p l (slice_get_within items i p here) here is;
   leads = λ i j p here lead. sound.done i (unqueued items s sound e i) j p here lead;
 }
 
--- the join of one call word, as the code made it
+-- the join of one word, as the code made it
 takes_word : (to : Option ℕ) (out : Label) (item : Item) (i : ℕ) (t : State) → to ≡ behind_word item i → out ≡ word_label item →
     TakesIn to out t → TakesIn (behind_word item i) (word_label item) t
 takes_word to out item i t a b takes j e = along (word_label item) out (label_at t j) (sym b) (takes j (a ∙ e))
@@ -333,10 +347,10 @@ stays_word : (to : Option ℕ) (out : Label) (item : Item) (i : ℕ) (s t : Stat
 stays_word to out item i s t a b stays any small below =
     stays any (λ j e. along out (word_label item) (any j) b (small j (sym a ∙ e))) below
 
-pub entries_joined : (items : List Placed) (i : ℕ) (p : Placed) (to : Option ℕ) (out : Label) (m t : State) → to ≡ behind_word p.item i →
-    out ≡ word_label p.item → slice_get items i ≡ Some p → HasEntries items i m → Rises m t → TakesIn to out t → HasEntries items (i + 1) t
-entries_joined items i p to out m t a b here before r takes =
-    entries_more items i p m t before r (takes_word to out p.item i t a b takes) here
+pub words_joined : (items : List Placed) (i : ℕ) (p : Placed) (to : Option ℕ) (out : Label) (m t : State) → to ≡ behind_word p.item i →
+    out ≡ word_label p.item → slice_get items i ≡ Some p → HasWords items i m → Rises m t → TakesIn to out t → HasWords items (i + 1) t
+words_joined items i p to out m t a b here before r takes =
+    words_more items i p m t before r (takes_word to out p.item i t a b takes) here
 
 pub least_joined : (items : List Placed) (i : ℕ) (p : Placed) (to : Option ℕ) (out : Label) (s m t : State) → to ≡ behind_word p.item i →
     out ≡ word_label p.item → slice_get items i ≡ Some p → StaysLeast items s m → StaysBelow to out m t → StaysLeast items s t

@@ -1,5 +1,5 @@
 -- What an item calls: the procedure or the gate, told by its bits.
-use Rattle.std.specs.Prelude.{ℕ, ◌==◌, Bool, true, false, List, [], ◌∷◌, Option, Some, None, if◌then◌else◌}
+use Rattle.std.specs.Prelude.{◌≡◌, ℕ, ◌==◌, Bool, true, false, List, [], ◌∷◌, Option, Some, None, slice_get, if◌then◌else◌}
 use Rattle.std.specs.Option.{option_or}
 use Rattle.cv_word.specs.Arithmetic.{added}
 use Rattle.cv_word.specs.Words.{widened}
@@ -56,3 +56,7 @@ abbrev pub is_call : Item → Bool
 is_call (Plain i) = instruction_is_call i
 is_call (CallUnit r bits) = true
 is_call _ = false
+
+-- each call word of the items has eight bytes
+abbrev pub AreEight : List Placed → Type 0
+AreEight items = (i : ℕ) (p : Placed) (bits : ℕ) → slice_get items i ≡ Some p → p.item ≡ Call bits → p.len ≡ 8

@@ -1,6 +1,6 @@
 -- What labelling asks of a listing: its items stand in order in the code, and none leads past the last. And the number of
 -- the item at a place.
-use Rattle.std.specs.Prelude.{◌≡◌, ℕ, suc, ◌<◌, Bool, true, List, length, Option, Some, None, slice_get, slice_index_or, ◌==◌, if◌then◌else◌}
+use Rattle.std.specs.Prelude.{◌≡◌, ℕ, suc, ◌+◌, ◌<◌, ◌≤◌, Bool, true, List, length, Option, Some, None, slice_get, slice_index_or, ◌==◌, if◌then◌else◌}
 use Rattle.code_sweep.specs.declared.item.Item.{Item}
 use Rattle.code_sweep.specs.declared.item.Item.TheVariants.{Call, Ret}
 use Rattle.code_sweep.specs.declared.item.Placed.{Placed}
@@ -10,6 +10,10 @@ use Rattle.taint_flow.specs.Flow.{falls_through}
 pub record StandInOrder (items : List Placed) (code : List ℕ) : Type 0 where
   pub inside : (i : ℕ) (p : Placed) → slice_get items i ≡ Some p → p.at < length code
   pub rising : (i j : ℕ) (p q : Placed) → slice_get items i ≡ Some p → slice_get items j ≡ Some q → i < j → p.at < q.at
+
+-- a later item begins where an earlier one has ended, or behind that
+abbrev pub StandApart : List Placed → Type 0
+StandApart items = (i j : ℕ) (p q : Placed) → slice_get items i ≡ Some p → slice_get items j ≡ Some q → i < j → p.at + p.len ≤ q.at
 
 -- an item that leads to the one behind it, and a word, is not the last
 abbrev pub goes_on : Item → Bool

@@ -1,6 +1,8 @@
 -- The state of the labelling while it is found: a label for each item, whether an item is queued, and the stack of the queued.
-use Rattle.std.specs.Prelude.{◌≡◌, ℕ, suc, ◌+◌, ◌-◌, ◌*◌, ◌^◌, ◌<◌, ◌≤◌, Bool, true, false, List, length, Option, Some, None, slice_get, slice_index_or, Contains}
+use Rattle.std.specs.Prelude.{◌≡◌, ℕ, suc, ◌+◌, ◌-◌, ◌*◌, ◌^◌, ◌<◌, ◌≤◌, Bool, true, false, List, length, Option, Some, None, slice_get, slice_index_or, Contains, unwrap_or}
+use Rattle.std.specs.Option.{option_map}
 use Rattle.std.specs.List.{sum_by}
+use Rattle.code_sweep.specs.declared.item.Item.{Item}
 use Rattle.code_sweep.specs.declared.item.Placed.{Placed}
 use Rattle.taint_flow.specs.Label.{Label, IsAtMost}
 use Rattle.taint_flow.specs.Flow.{Labelling, MeetsFlow, Leads, left_behind, said_behind}
@@ -65,6 +67,13 @@ HandsOn items i s t =
 abbrev pub HasWords : List Placed → ℕ → State → Type 0
 HasWords items count s =
     (i : ℕ) (p : Placed) (l : Label) → i < count → slice_get items i ≡ Some p → said_behind p.item ≡ Some l → IsAtMost l (label_at s (suc i))
+
+-- the item behind a word, and what the word says of it
+abbrev pub behind_word : Item → ℕ → Option ℕ
+behind_word item i = option_map (λ _. i + 1) (said_behind item)
+
+abbrev pub word_label : Item → Label
+word_label item = unwrap_or (said_behind item) (label_of 0)
 
 -- no label rises above what every labelling has that meets the flow rules
 abbrev pub StaysLeast : List Placed → State → State → Type 0

@@ -6,12 +6,12 @@ ghost use Rattle.cv_word.specs.MemoryMap.{code_base};
 ghost use Rattle.cv_word.specs.Words.{widened};
 ghost use Rattle.taint_flow.specs.declared.label.Label.{Label as LabelBits};
 ghost use Rattle.taint_flow.specs.Label.{IsAtMost, entry_label};
-ghost use Rattle.taint_flow.specs.Flow.{Labelling, MeetsFlow, falls_through, left_behind, jump_target};
+ghost use Rattle.taint_flow.specs.Flow.{Labelling, MeetsFlow, falls_through, left_behind, jump_target, address_after};
 ghost use Rattle.taint_flow.specs.Bits.{label_of, labelling_of};
 ghost use Rattle.taint_flow.specs.Places.{StandInOrder, NextStands, NumbersItems, number_at};
-ghost use Rattle.taint_flow.specs.Worklist.{state_of, IsWhole, Rises, HandsOn, StaysLeast, HasEntries, IsFresh, IsSound, behind_word, word_label};
+ghost use Rattle.taint_flow.specs.Worklist.{state_of, IsWhole, Rises, HandsOn, StaysLeast, HasWords, IsFresh, IsSound, behind_word, word_label};
 
-use crate::label::{Label, entry_label, left_by};
+use crate::label::{Label, entry_label, left_by, return_label};
 use crate::places::{ItemNumbers, item_numbers};
 use crate::worklist::{Worklist, join};
 use code_sweep::{Item, Listing, Placed};
@@ -21,7 +21,7 @@ use std::marker::Model;
 use x64_decode::Instr;
 
 /// The flat address of a code's first byte.
-const CODE_BASE: u64 = 0x1_0000;
+pub const CODE_BASE: u64 = 0x1_0000;
 
 /// A label for each item of a listing, by the item's number from 0.
 #[derive(Drop)]
@@ -53,7 +53,7 @@ impl Labels {
 }
 
 /// The least labels that meet the flow rules. The listing's items stand in order in its code of at most 4,194,304 bytes,
-/// and one stands behind each call word and each item that leads to the next. A jump whose target is no item leads nowhere.
+/// and one stands behind each word and each item that leads to the next. A jump whose target is no item leads nowhere.
 /// An item that nothing leads to has nothing private before it, and still hands on what it leaves. Room for the labels and
 /// the worklist is taken at the start; the one error is want of memory.
 pub fn label_code(alloc: Global, listing: &Listing<'_>) -> Result<Labels, NoMemory>
@@ -90,13 +90,13 @@ fn queue_all(alloc: Global, count: usize) -> Result<Worklist, NoMemory>
     })
 }
 
-/// Joins what each call word says into the label behind it.
+/// Joins what each word says into the label behind it.
 fn enter_words(w: &mut Worklist, items: &[Placed]) -> Result<(), NoMemory>
     requires whole { IsWhole (length items.now) (state_of w.old) }
     requires limit { length items.now < 2 ^ 32 }
     requires next { NextStands items.now }
     ensures rises { OnOk result (Rises (state_of w.old) (state_of w.new)) }
-    ensures entries { OnOk result (HasEntries items.now (length items.now) (state_of w.new)) }
+    ensures words { OnOk result (HasWords items.now (length items.now) (state_of w.new)) }
     ensures least { OnOk result (StaysLeast items.now (state_of w.old) (state_of w.new)) }
 {
     for (i, p) in items.iter().enumerate() {
@@ -105,23 +105,25 @@ fn enter_words(w: &mut Worklist, items: &[Placed]) -> Result<(), NoMemory>
     Ok(())
 }
 
-/// The number of the item behind a call word.
+/// The number of the item behind a word.
 fn behind_word(item: &Item, i: usize) -> Option<u32>
     requires { i + 1 < 2 ^ 32 }
     ensures { result ≡ behind_word item.now i }
 {
     match *item {
         Item::Call(_) => Some((i + 1) as u32),
+        Item::Ret(_) => Some((i + 1) as u32),
         _ => None,
     }
 }
 
-/// What a call word says of the item behind it.
+/// What a word says of the item behind it.
 fn word_label(item: &Item) -> Label
     ensures { label_of result.bits ≡ word_label item.now }
 {
     match *item {
         Item::Call(bits) => entry_label(bits),
+        Item::Ret(bit) => return_label(bit),
         _ => Label { bits: 0 },
     }
 }
@@ -218,15 +220,22 @@ fn target_number(numbers: &ItemNumbers, p: &Placed) -> Option<u32>
 pub fn jump_target(p: &Placed) -> Option<u64>
     ensures { result ≡ jump_target p.now }
 {
-    let behind = CODE_BASE + u64::from(p.at) + u64::from(p.len);
     match p.item {
-        Item::Plain(Instr::Jmp { rel }) => Some(target_from(behind, rel)),
-        Item::Plain(Instr::Jcc { cc: _, rel }) => Some(target_from(behind, rel)),
+        Item::Plain(Instr::Jmp { rel }) => Some(target_from(behind(p), rel)),
+        Item::Plain(Instr::Jcc { cc: _, rel }) => Some(target_from(behind(p), rel)),
         _ => None,
     }
 }
 
-fn target_from(behind: u64, rel: i32) -> u64
+/// The flat address behind an item.
+pub fn behind(p: &Placed) -> u64
+    ensures { result ≡ address_after p.now }
+{
+    CODE_BASE + u64::from(p.at) + u64::from(p.len)
+}
+
+/// The flat address of a jump or a call, from the one behind it.
+pub fn target_from(behind: u64, rel: i32) -> u64
     ensures { result ≡ added behind (widened rel) }
 {
     behind.wrapping_add(i64::from(rel).cast_unsigned())

@@ -3,10 +3,11 @@
 ghost use Rattle.std.specs.Prelude.{◌≡◌, ◌<◌, ◌||◌, true};
 ghost use Rattle.x64_decode.specs.Spelling.{number};
 ghost use Rattle.x64_decode.specs.declared.instr.Reg.TheVariants.{Rax, Rdx};
-ghost use Rattle.taint_flow.specs.Label.{set, set_reg, set_where, taint, flags, is_written, segment_taint, left_by, entry_label};
+ghost use Rattle.taint_flow.specs.Label.{set, set_reg, set_where, taint, flags, is_written, segment_taint, left_by, entry_label, return_label};
 ghost use Rattle.taint_flow.specs.Bits.{label_of};
-ghost use Rattle.taint_flow.specs.Flow.{memory_of, base_is_private, shows_private, has_private_address, stores_private, branches_on_private, divides_private, leaves_private_stack};
+ghost use Rattle.taint_flow.specs.Flow.{memory_of, base_is_private, shows_private, has_private_address, stores_private, branches_on_private, divides_private, leaves_private_stack, passes_private, returns_private};
 
+use code_sweep::Item;
 use x64_decode::{AluOp, Instr, Mem, Reg, Seg};
 
 /// What may be private: bit k stands for register k, for k from 0 to 15, and bit 16 for the flags.
@@ -180,13 +181,27 @@ pub fn entry_label(bits: u8) -> Label
         .set_reg(Reg::Rdi, arguments.has(0))
 }
 
-/// Whether the instruction accesses memory at an address that may be private.
-pub fn has_private_address(i: &Instr, l: Label) -> bool
-    ensures { result ≡ has_private_address i.now (label_of l.bits) }
+/// What may be private at least behind a return word: the flags and all registers but rsp, and rax only
+/// where the bit is 1.
+pub fn return_label(bit: u8) -> Label
+    ensures { label_of result.bits ≡ return_label bit }
 {
-    match memory_of(i) {
-        Some(mem) => l.taint(mem.base),
-        None => false,
+    Label { bits: 0x1_ffef }.set_reg(Reg::Rax, bit == 1)
+}
+
+/// Whether the item accesses memory at an address that may be private. A return unit reads at rsp, and a call unit goes where
+/// its register says.
+pub fn has_private_address(item: &Item, l: Label) -> bool
+    ensures { result ≡ has_private_address item.now (label_of l.bits) }
+{
+    match item {
+        Item::Plain(i) => match memory_of(i) {
+            Some(mem) => l.taint(mem.base),
+            None => false,
+        },
+        Item::ReturnUnit(_) => l.taint(Reg::Rsp),
+        Item::CallUnit(r, _) => l.taint(*r),
+        _ => false,
     }
 }
 
@@ -212,11 +227,11 @@ fn memory_of(i: &Instr) -> Option<Mem>
 }
 
 /// Whether it stores what may be private to the public segment.
-pub fn stores_private(i: &Instr, l: Label) -> bool
-    ensures { result ≡ stores_private i.now (label_of l.bits) }
+pub fn stores_private(item: &Item, l: Label) -> bool
+    ensures { result ≡ stores_private item.now (label_of l.bits) }
 {
-    match *i {
-        Instr::Store { width: _, mem, src } => match mem.seg {
+    match *item {
+        Item::Plain(Instr::Store { width: _, mem, src }) => match mem.seg {
             Seg::Fs => l.taint(src),
             Seg::Gs => false,
         },
@@ -225,28 +240,57 @@ pub fn stores_private(i: &Instr, l: Label) -> bool
 }
 
 /// Whether it branches on flags that may be private.
-pub fn branches_on_private(i: &Instr, l: Label) -> bool
-    ensures { result ≡ branches_on_private i.now (label_of l.bits) }
+pub fn branches_on_private(item: &Item, l: Label) -> bool
+    ensures { result ≡ branches_on_private item.now (label_of l.bits) }
 {
-    match *i {
-        Instr::Jcc { cc: _, rel: _ } => l.flags(),
+    match *item {
+        Item::Plain(Instr::Jcc { cc: _, rel: _ }) => l.flags(),
         _ => false,
     }
 }
 
 /// Whether it divides and an operand may be private.
-pub fn divides_private(i: &Instr, l: Label) -> bool
-    ensures { result ≡ divides_private i.now (label_of l.bits) }
+pub fn divides_private(item: &Item, l: Label) -> bool
+    ensures { result ≡ divides_private item.now (label_of l.bits) }
 {
-    match *i {
-        Instr::Idiv { r } => l.taint(Reg::Rax) | l.either(Reg::Rdx, r),
+    match *item {
+        Item::Plain(Instr::Idiv { r }) => l.taint(Reg::Rax) | l.either(Reg::Rdx, r),
         _ => false,
     }
 }
 
-/// Whether rsp may be private behind the instruction.
-pub fn leaves_private_stack(i: &Instr, l: Label) -> bool
-    ensures { result ≡ leaves_private_stack i.now (label_of l.bits) }
+/// Whether it is an instruction behind which rsp may be private.
+pub fn leaves_private_stack(item: &Item, l: Label) -> bool
+    ensures { result ≡ leaves_private_stack item.now (label_of l.bits) }
 {
-    left_by(i, l).taint(Reg::Rsp)
+    match item {
+        Item::Plain(i) => left_by(i, l).taint(Reg::Rsp),
+        _ => false,
+    }
+}
+
+/// Whether an argument may be private whose bit is clear in the bits of what is called.
+pub fn passes_private(called: Option<u8>, l: Label) -> bool
+    ensures { result ≡ passes_private called (label_of l.bits) }
+{
+    let Some(bits) = called else {
+        return false;
+    };
+    let may = Label {
+        bits: u32::from(bits),
+    };
+    (l.taint(Reg::Rdi) && !may.has(0))
+        || (l.taint(Reg::Rsi) && !may.has(1))
+        || (l.taint(Reg::Rdx) && !may.has(2))
+        || (l.taint(Reg::Rcx) && !may.has(3))
+}
+
+/// Whether it returns with a public result where rax may be private.
+pub fn returns_private(item: &Item, l: Label) -> bool
+    ensures { result ≡ returns_private item.now (label_of l.bits) }
+{
+    match *item {
+        Item::ReturnUnit(bit) => bit == 0 && l.taint(Reg::Rax),
+        _ => false,
+    }
 }

@@ -6,15 +6,17 @@
 //! of the code in one step.
 #![tactic(auto)]
 
+mod calls;
 mod flow;
 mod label;
 mod places;
 mod worklist;
 
+pub use calls::{call_target, callee, is_call};
 pub use flow::{Labels, jump_target, label_code};
 pub use label::{
     Label, branches_on_private, divides_private, entry_label, has_private_address,
-    leaves_private_stack, left_by, stores_private,
+    leaves_private_stack, left_by, passes_private, return_label, returns_private, stores_private,
 };
 pub use places::{ItemNumbers, item_numbers};
 

@@ -4,7 +4,7 @@ use Rattle.code_sweep.specs.declared.item.Item.TheVariants.{Call}
 use Rattle.code_sweep.specs.declared.item.Placed.{Placed}
 use Rattle.taint_flow.specs.Bits.{label_of}
 use Rattle.taint_flow.specs.Worklist.{state_of}
-use Rattle.taint_flow.proofs.Sound.{rises_then, behind_inside, entries_joined, least_joined}
+use Rattle.taint_flow.proofs.Sound.{rises_then, behind_inside, words_joined, least_joined}
 use Rattle.taint_flow.proofs.flow.enter_words.Goals as goal
 
 abbrev nothing : Placed
@@ -26,9 +26,9 @@ loop-i-preserved c =
     let here = slice_get-get_or c.args.items.now c.loop-i.i nothing within in
     record {
       rises = rises_then _ _ _ c.loop-i.invariant.rises c.in_ok-join.ensures.rises;
-      entries = entries_joined c.args.items.now c.loop-i.i (get_or c.args.items.now c.loop-i.i nothing) c.behind_word.result
+      words = words_joined c.args.items.now c.loop-i.i (get_or c.args.items.now c.loop-i.i nothing) c.behind_word.result
           (label_of c.word_label.result.bits) (state_of c.loop-i.w) (state_of c.join.new.w) c.behind_word.ensures c.word_label.ensures here
-          c.loop-i.invariant.entries c.in_ok-join.ensures.rises c.in_ok-join.ensures.takes;
+          c.loop-i.invariant.words c.in_ok-join.ensures.rises c.in_ok-join.ensures.takes;
       least = least_joined c.args.items.now c.loop-i.i (get_or c.args.items.now c.loop-i.i nothing) c.behind_word.result
           (label_of c.word_label.result.bits) (state_of c.args.w.now) (state_of c.loop-i.w) (state_of c.join.new.w) c.behind_word.ensures
           c.word_label.ensures here c.loop-i.invariant.least c.in_ok-join.ensures.stays;

@@ -28,7 +28,7 @@ settle-requires-clause-limit c =
 pub settle-requires-clause-sound : goal.settle-requires-clause-sound
 settle-requires-clause-sound c =
     sound_from_fresh c.as_slice-items.result.now (state_of c.in_ok-w.w) (state_of c.enter_words.new.w) c.in_ok-w.ensures
-    c.in_ok-enter_words.ensures.rises c.in_ok-enter_words.ensures.entries c.in_ok-enter_words.ensures.least
+    c.in_ok-enter_words.ensures.rises c.in_ok-enter_words.ensures.words c.in_ok-enter_words.ensures.least
 
 pub returns-clause-meets : goal.returns-clause-meets
 returns-clause-meets c =
