@@ -1,12 +1,17 @@
 -- What a listing's chain says of its items: their order, and where words stand.
-use Rattle.std.proofs.Common.{◌≡◌, ◌≢◌, ℕ, zero, suc, ◌+◌, ◌-◌, ◌<◌, ◌≤◌, Bool, true, false, List, [], ◌∷◌, ◌++◌, length, take, drop, Option, Some, None, refl, sym, ◌∙◌, ap, subst, arith, ◌⊎◌, inl, inr, slice_get, cond}
-use Rattle.std.proofs.lemmas.Bool.{true≢false}
-use Rattle.x64_decode.proofs.Laws.{spelling_length}
+use Rattle.std.proofs.Common.{◌≡◌, ◌≢◌, ℕ, zero, suc, ◌+◌, ◌-◌, ◌<◌, ◌≤◌, Bool, true, false, List, [], ◌∷◌, ◌++◌, length, take, drop, Option, Some, None, refl, sym, ◌∙◌, ap, subst, arith, ◌⊎◌, inl, inr, slice_get, get_or, not, cond, add-one}
+use Rattle.std.proofs.lemmas.Option.{slice_get-get_or}
+use Rattle.std.proofs.lemmas.Bool.{true≢false, cases_lt}
+use Rattle.std.proofs.lemmas.List.{get_or_append_left, get_or_push}
 use Rattle.code_sweep.specs.declared.item.Item.{Item}
 use Rattle.code_sweep.specs.declared.item.Item.TheVariants.{Call, Ret, Plain, ReturnUnit, CallUnit}
 use Rattle.code_sweep.specs.declared.item.Placed.{Placed}
-use Rattle.code_sweep.specs.Listing.{item_bytes, IsChain, StandsAt, IsAdmitted}
-use Rattle.conf_verify.specs.Rules.{is_word, is_call_word, call_words, plain_items, procedure_of}
+use Rattle.code_sweep.specs.Listing.{item_bytes, IsChain, StandsAt}
+use Rattle.conf_verify.specs.Rules.{is_word, is_call_word, call_words, plain_items, procedure_of, last_bits}
+use Rattle.conf_verify.specs.Search.{BadResult, IsBadResult}
+use Rattle.taint_flow.specs.Calls.{call_bits}
+use Rattle.taint_flow.proofs.Chain.{bytes_some}
+use Rattle.std.specs.Option.{option_or}
 
 some_same : {A : Type 0} (x y : A) → Some x ≡ Some y → x ≡ y
 some_same x y e = cc
@@ -20,18 +25,10 @@ pub record IsPlaced (prefix code : List ℕ) (p : Placed) : Type 0 where
   pub len : p.len ≡ length (item_bytes prefix p.item)
   pub some : 0 < p.len
 
-has_bytes : (prefix code : List ℕ) (place : ℕ) (item : Item) → StandsAt prefix code place item → 0 < length (item_bytes prefix item)
-unfolding item_bytes
-has_bytes prefix code place (Call bits) s = omega arith
-has_bytes prefix code place (Plain i) s = (spelling_length i).some
-has_bytes prefix code place (Ret bit) s = absurd s.admitted
-has_bytes prefix code place (ReturnUnit bit) s = absurd s.admitted
-has_bytes prefix code place (CallUnit r bits) s = absurd s.admitted
-
 placed_here : (prefix code : List ℕ) (from : ℕ) (p : Placed) → p.at ≡ from → p.len ≡ length (item_bytes prefix p.item) → StandsAt prefix code from p.item → IsPlaced prefix code p
 placed_here prefix code from p here long stands =
     let s : StandsAt prefix code p.at p.item = subst (λ n. StandsAt prefix code n p.item) (sym here) stands in
-    let some = has_bytes prefix code p.at p.item s in
+    let some = bytes_some prefix p.item in
     record { stands = s; len = long; some = omega arith }
 
 pub chain_placed : (prefix code : List ℕ) (items : List Placed) (from to i : ℕ) (p : Placed) → IsChain prefix code items from to → slice_get items i ≡ Some p → IsPlaced prefix code p
@@ -55,78 +52,87 @@ chain_rising prefix code (x ∷ xs) from to zero (suc j) p q chain e f h =
     let some = (placed_here prefix code from x chain.0 chain.1 chain.2).some in omega arith
 chain_rising prefix code (x ∷ xs) from to (suc i) (suc j) p q chain e f h = chain_rising prefix code xs (from + x.len) to i j p q chain.3 e f (omega arith)
 
--- behind the first byte no word stands
-later_no_word : (prefix code : List ℕ) (place : ℕ) (item : Item) → 0 < place → StandsAt prefix code place item → is_word item ≡ false
-later_no_word prefix code place (Call bits) h s = absurd (let z = s.admitted in omega arith)
-later_no_word prefix code place (Ret bit) h s = absurd s.admitted
-later_no_word prefix code place (Plain i) h s = refl
-later_no_word prefix code place (ReturnUnit bit) h s = refl
-later_no_word prefix code place (CallUnit r bits) h s = refl
+-- ---- counts of the first so many items
 
-pub chain_later : (prefix code : List ℕ) (items : List Placed) (from to i : ℕ) (p : Placed) → IsChain prefix code items from to → 0 < p.at → slice_get items i ≡ Some p → is_word p.item ≡ false
-chain_later prefix code items from to i p chain h e = later_no_word prefix code p.at p.item h (chain_placed prefix code items from to i p chain e).stands
+cons_assoc : (a b c : ℕ) → a + (b + c) ≡ (a + b) + c
+cons_assoc a b c = omega arith
 
-pub call_is_word : (item : Item) → is_word item ≡ false → is_call_word item ≡ false
-call_is_word (Call bits) e = absurd (true≢false e)
-call_is_word (Ret bit) e = refl
-call_is_word (Plain i) e = refl
-call_is_word (ReturnUnit bit) e = refl
-call_is_word (CallUnit r bits) e = refl
+-- one more item counts as a call word, or not
+pub call_words_more : (items : List Placed) (i : ℕ) (p : Placed) → slice_get items i ≡ Some p →
+    call_words (take (suc i) items) ≡ call_words (take i items) + cond (is_call_word p.item) 1 0
+call_words_more [] i p e = absurd (none_some p e)
+call_words_more (x ∷ xs) zero p e =
+    let same : is_call_word x.item ≡ is_call_word p.item = ap (λ (y : Placed). is_call_word y.item) (some_same x p e) in
+    rw same (omega arith)
+call_words_more (x ∷ xs) (suc i) p e =
+    let h : call_words (take (suc i) xs) ≡ call_words (take i xs) + cond (is_call_word p.item) 1 0 = call_words_more xs i p e in
+    ap (λ n. cond (is_call_word x.item) 1 0 + n) h ∙ cons_assoc (cond (is_call_word x.item) 1 0) (call_words (take i xs)) (cond (is_call_word p.item) 1 0)
 
--- items none of which is a word
-abbrev NoWords : List Placed → Type 0
-NoWords items = (i : ℕ) (p : Placed) → slice_get items i ≡ Some p → is_word p.item ≡ false
+pub plain_items_more : (items : List Placed) (i : ℕ) (p : Placed) → slice_get items i ≡ Some p →
+    plain_items (take (suc i) items) ≡ plain_items (take i items) + cond (is_word p.item) 0 1
+plain_items_more [] i p e = absurd (none_some p e)
+plain_items_more (x ∷ xs) zero p e =
+    let same : is_word x.item ≡ is_word p.item = ap (λ (y : Placed). is_word y.item) (some_same x p e) in
+    rw same (omega arith)
+plain_items_more (x ∷ xs) (suc i) p e =
+    let h : plain_items (take (suc i) xs) ≡ plain_items (take i xs) + cond (is_word p.item) 0 1 = plain_items_more xs i p e in
+    ap (λ n. cond (is_word x.item) 0 1 + n) h ∙ cons_assoc (cond (is_word x.item) 0 1) (plain_items (take i xs)) (cond (is_word p.item) 0 1)
 
-no_call_words : (items : List Placed) (n : ℕ) → NoWords items → call_words (take n items) ≡ 0
-no_call_words [] zero h = refl
-no_call_words [] (suc n) h = refl
-no_call_words (p ∷ ps) zero h = refl
-no_call_words (p ∷ ps) (suc n) h =
-    let e = call_is_word p.item (h 0 p refl) in let f = no_call_words ps n (λ i q g. h (suc i) q g) in
-    rw (e, f) refl
+-- the counts, as loops over items by index make them
+pub counted_call : (items : List Placed) (i before step : ℕ) (d : Placed) → i < length items → before ≡ call_words (take i items) →
+    step ≡ cond (is_call_word (get_or items i d).item) 1 0 → before + step ≡ call_words (take (i + 1) items)
+counted_call items i before step d inside e f =
+    let h = call_words_more items i (get_or items i d) (slice_get-get_or items i d inside) in
+    rw (add-one, h, e, f) refl
 
-all_call_words : (items : List Placed) → NoWords items → call_words items ≡ 0
-all_call_words [] h = refl
-all_call_words (p ∷ ps) h =
-    let e = call_is_word p.item (h 0 p refl) in let f = all_call_words ps (λ i q g. h (suc i) q g) in rw (e, f) refl
+-- one more number in a list of the items' procedures
+pub numbers_push : (items : List Placed) (numbers : List ℕ) (i count : ℕ) → length numbers ≡ i → count ≡ procedure_of items i →
+    ((j : ℕ) → j < i → get_or numbers j 0 ≡ procedure_of items j) → (j : ℕ) → j < i + 1 → get_or (numbers ++ count ∷ []) j 0 ≡ procedure_of items j
+numbers_push items numbers i count len is each j small =
+    elim (cases_lt j i) [
+      | inl below ↦ get_or_append_left numbers (count ∷ []) 0 j (omega arith) ∙ each j below
+      | inr above ↦
+          let here : j ≡ i = omega arith in
+          get_or_push numbers count 0 j (omega arith) ∙ is ∙ ap (λ k. procedure_of items k) (sym here)
+    ]
 
-all_plain : (items : List Placed) → NoWords items → plain_items items ≡ length items
-all_plain [] h = refl
-all_plain (p ∷ ps) h =
-    let e = h 0 p refl in let f = all_plain ps (λ i q g. h (suc i) q g) in rw (e, f) (omega arith)
+turned : (b : Bool) → ◌≡◌ {A = ℕ} (cond (not b) 1 0) (cond b 0 1)
+turned true = refl
+turned false = refl
 
-word_of_call : (item : Item) → is_call_word item ≡ true → is_word item ≡ true
-word_of_call (Call bits) e = refl
-word_of_call (Ret bit) e = absurd (true≢false (sym e))
-word_of_call (Plain i) e = absurd (true≢false (sym e))
-word_of_call (ReturnUnit bit) e = absurd (true≢false (sym e))
-word_of_call (CallUnit r bits) e = absurd (true≢false (sym e))
+pub counted_plain : (items : List Placed) (i before step : ℕ) (d : Placed) → i < length items → before ≡ plain_items (take i items) →
+    step ≡ cond (not (is_word (get_or items i d).item)) 1 0 → before + step ≡ plain_items (take (i + 1) items)
+counted_plain items i before step d inside e f =
+    let h = plain_items_more items i (get_or items i d) (slice_get-get_or items i d inside) in
+    let g = turned (is_word (get_or items i d).item) in
+    rw (add-one, h, e, f, g) refl
 
--- a chain from the first byte, whose first item is a call word: the others are no words
-rest_no_words : (prefix code : List ℕ) (p : Placed) (ps : List Placed) (to : ℕ) → IsChain prefix code (p ∷ ps) 0 to → NoWords ps
-rest_no_words prefix code p ps to chain = λ i q e.
-    let some = (placed_here prefix code 0 p chain.0 chain.1 chain.2).some in
-    let low = chain_low prefix code ps (0 + p.len) to i q chain.3 e in
-    chain_later prefix code ps (0 + p.len) to i q chain.3 (omega arith) e
+-- so many items have at most so many call words
+cond_one : (b : Bool) → cond b 1 0 ≤ 1
+cond_one true = omega arith
+cond_one false = omega arith
 
-pub one_procedure : (prefix code : List ℕ) (items : List Placed) (to i : ℕ) (p first : Placed) → IsChain prefix code items 0 to → slice_get items 0 ≡ Some first → is_call_word first.item ≡ true →
-    slice_get items i ≡ Some p → procedure_of items i ≡ 1
-one_procedure prefix code [] to i p first chain e call f = absurd (none_some p f)
-one_procedure prefix code (x ∷ xs) to i p first chain e call f =
-    let c : is_call_word x.item ≡ true = ap (λ (y : Placed). is_call_word y.item) (some_same x first e) ∙ call in
-    let n = no_call_words xs i (rest_no_words prefix code x xs to chain) in rw (c, n) refl
+pub few_call_words : (items : List Placed) → call_words items ≤ length items
+few_call_words [] = omega arith
+few_call_words (x ∷ xs) = let h = few_call_words xs in let g = cond_one (is_call_word x.item) in omega arith
 
-pub one_call_word : (prefix code : List ℕ) (items : List Placed) (to : ℕ) (first : Placed) → IsChain prefix code items 0 to → slice_get items 0 ≡ Some first → is_call_word first.item ≡ true → call_words items ≡ 1
-one_call_word prefix code [] to first chain e call = absurd (none_some first e)
-one_call_word prefix code (x ∷ xs) to first chain e call =
-    let c : is_call_word x.item ≡ true = ap (λ (y : Placed). is_call_word y.item) (some_same x first e) ∙ call in
-    let n = all_call_words xs (rest_no_words prefix code x xs to chain) in rw (c, n) refl
+-- ---- the bits of the last call word
 
-pub one_word_less : (prefix code : List ℕ) (items : List Placed) (to : ℕ) (first : Placed) → IsChain prefix code items 0 to → slice_get items 0 ≡ Some first → is_call_word first.item ≡ true → plain_items items + 1 ≡ length items
-one_word_less prefix code [] to first chain e call = absurd (none_some first e)
-one_word_less prefix code (x ∷ xs) to first chain e call =
-    let c : is_word x.item ≡ true = word_of_call x.item (ap (λ (y : Placed). is_call_word y.item) (some_same x first e) ∙ call) in
-    let n = all_plain xs (rest_no_words prefix code x xs to chain) in rw (c, n) (omega arith)
+or_none : (o : Option ℕ) → option_or o None ≡ o
+or_none None = refl
+or_none (Some x) = refl
+
+or_assoc : (a b c : Option ℕ) → option_or (option_or a b) c ≡ option_or a (option_or b c)
+or_assoc None b c = refl
+or_assoc (Some x) b c = refl
+
+pub last_bits_more : (items : List Placed) (i : ℕ) (p : Placed) → slice_get items i ≡ Some p →
+    last_bits (take (suc i) items) ≡ option_or (call_bits p.item) (last_bits (take i items))
+last_bits_more [] i p e = absurd (none_some p e)
+last_bits_more (x ∷ xs) zero p e =
+    ap (λ (y : Placed). call_bits y.item) (some_same x p e) ∙ sym (or_none (call_bits p.item))
+last_bits_more (x ∷ xs) (suc i) p e =
+    ap (λ o. option_or o (call_bits x.item)) (last_bits_more xs i p e) ∙ or_assoc (call_bits p.item) (last_bits (take i xs)) (call_bits x.item)
 
 -- a call word has 8 bytes
 call_eight : (prefix : List ℕ) (item : Item) → length prefix ≡ 6 → is_call_word item ≡ true → length (item_bytes prefix item) ≡ 8
@@ -139,3 +145,21 @@ call_eight prefix (CallUnit r bits) six e = absurd (true≢false (sym e))
 
 pub chain_eight : (prefix code : List ℕ) (items : List Placed) (to i : ℕ) (p : Placed) → length prefix ≡ 6 → IsChain prefix code items 0 to → slice_get items i ≡ Some p → is_call_word p.item ≡ true → p.len ≡ 8
 chain_eight prefix code items to i p six chain e call = (chain_placed prefix code items 0 to i p chain e).len ∙ call_eight prefix p.item six call
+
+-- ---- a return unit and the bits of its procedure, as a loop over items by index finds them
+
+pub bits_next : (items : List Placed) (i : ℕ) (d : Placed) (before procedure : Option ℕ) → i < length items → before ≡ last_bits (take i items) →
+    procedure ≡ option_or (call_bits (get_or items i d).item) before → procedure ≡ last_bits (take (suc i) items)
+bits_next items i d before procedure inside e f =
+    f ∙ ap (λ o. option_or (call_bits (get_or items i d).item) o) e ∙ sym (last_bits_more items i (get_or items i d) (slice_get-get_or items i d inside))
+
+pub result_found : (items : List Placed) (i : ℕ) (d : Placed) (procedure : Option ℕ) → i < length items → procedure ≡ last_bits (take (suc i) items) →
+    IsBadResult (get_or items i d).item procedure → BadResult items i
+result_found items i d procedure inside e bad =
+    (get_or items i d, bad.0, bad.1, slice_get-get_or items i d inside, bad.2, sym e ∙ bad.3, bad.4)
+
+pub result_fine : (items : List Placed) (i : ℕ) (d : Placed) (procedure : Option ℕ) → i < length items → procedure ≡ last_bits (take (suc i) items) →
+    (IsBadResult (get_or items i d).item procedure → ⊥) → BadResult items i → ⊥
+result_fine items i d procedure inside e fine bad =
+    let same = some_same bad.0 (get_or items i d) (sym bad.3 ∙ slice_get-get_or items i d inside) in
+    fine (bad.1, bad.2, ap (λ (x : Placed). x.item) (sym same) ∙ bad.4, e ∙ bad.5, bad.6)

@@ -11,19 +11,17 @@ use Rattle.taint_flow.specs.declared.label.Label.{Label as LabelBits}
 use Rattle.taint_flow.proofs.Tables.{count_small}
 use Rattle.taint_flow.proofs.Chain.{order_from_listing}
 use Rattle.image_form.specs.Image.{Image, IsGood}
-use Rattle.image_form.specs.declared.parts.Parts.{Parts}
 use Rattle.conf_verify.specs.declared.rule.Rule.{Rule}
-use Rattle.conf_verify.specs.declared.rule.Rule.TheVariants.{V3, V4, V6, V9}
+use Rattle.conf_verify.specs.declared.rule.Rule.TheVariants.{V4, V9}
 use Rattle.conf_verify.specs.declared.verdict.VerifyError.{VerifyError}
 use Rattle.conf_verify.specs.declared.verdict.VerifyError.TheVariants.{NoMemory, Refused}
 use Rattle.conf_verify.specs.Rules.{BreaksShape, BreaksPrefix, FollowsCallWord, rule_number}
-use Rattle.conf_verify.specs.Search.{BadEnd, BadJump, BadOccurrence, BadLabel}
+use Rattle.conf_verify.specs.Search.{BadOccurrence, BadLabel}
 use Rattle.conf_verify.specs.Verdict.{IsImage, HasListing, IsAcceptedImage, IsVerdict}
-use Rattle.conf_verify.specs.Answer.{image_of, checked_of, HasCounts, IsRefusal}
+use Rattle.conf_verify.specs.Answer.{IsRefusal}
 use Rattle.conf_verify.specs.Steps.{IsCodeVerdict, IsCodeRefusal, HoldsBelow}
-use Rattle.conf_verify.proofs.Chains.{one_call_word, one_word_less}
 use Rattle.conf_verify.proofs.Told.{told_code}
-use Rattle.conf_verify.proofs.Steps.{told_ends, told_jumps, told_prefix, no_prefix, told_entry, no_entry, first_is_call, holds_four}
+use Rattle.conf_verify.proofs.Steps.{told_prefix, no_prefix, told_entry}
 use Rattle.conf_verify.proofs.Flows.{IsLeastBroken, told_flow, accepts}
 
 pub refusal : (image : Image) (error : VerifyError) (rule : Rule) (at : ℕ) → error ≡ Refused rule at → IsCodeVerdict image rule at → IsCodeRefusal image error
@@ -32,13 +30,6 @@ refusal image error rule at is v = subst (λ (e : VerifyError). IsCodeRefusal im
 pub raise : (bytes : List ℕ) (image : Image) (error : VerifyError) → IsImage bytes image → IsCodeRefusal image error → IsRefusal bytes error
 raise bytes image NoMemory is r = tt
 raise bytes image (Refused rule at) is r = told_code bytes image is rule at r
-
-pub ends_at : (image : Image) (xs : List Placed) (i : ℕ) (d : Placed) → HasListing image xs → (i < length xs) × BadEnd xs i × ((j : ℕ) → j < i → BadEnd xs j → ⊥) → IsCodeVerdict image V3 (code_base + (get_or xs i d).at)
-ends_at image xs i d listing found = told_ends image xs i (get_or xs i d) listing (slice_get-get_or xs i d found.0) found.1 found.2
-
-pub jumps_at : (image : Image) (xs : List Placed) (i : ℕ) (d : Placed) → IsGood image → HasListing image xs → HoldsBelow image xs 6 → (i < length xs) × BadJump xs i × ((j : ℕ) → j < i → BadJump xs j → ⊥) →
-    IsCodeVerdict image V6 (code_base + (get_or xs i d).at)
-jumps_at image xs i d good listing below found = told_jumps image xs i (get_or xs i d) good listing (slice_get-get_or xs i d found.0) found.1 found.2 below
 
 the_place : (ys : List ℕ) (k place : ℕ) → k < length ys → place ≡ get_or ys k place → place ≡ slice_index ys k
 the_place ys k place inside is = is ∙ get_or_from_slice_get ys k (slice_index ys k) place (slice_get-get_or ys k 0 inside)
@@ -87,15 +78,3 @@ pub few_items : (image : Image) (items : List Placed) → IsGood image → HasLi
 few_items image items good listing =
     let few = count_small items image.code (order_from_listing image.prefix image.code items listing) in
     let code = good.code in let most = code.1 in omega arith
-
-pub counts_are : (parts : Parts) (items : List Placed) (n : ℕ) → IsGood (image_of parts) → HasListing (image_of parts) items → ((rule : Rule) (place : ℕ) → BreaksShape rule (image_of parts) items place → ⊥) →
-    n ≡ length items - 1 → HasCounts (checked_of parts 1 n)
-counts_are parts items n good listing shape is =
-    let f = first_is_call (image_of parts) items good listing (λ rule place low b. shape rule place b) in
-    let less = one_word_less (image_of parts).prefix (image_of parts).code items (length (image_of parts).code) f.0 listing f.1 f.2 in
-    record {
-      listing = items;
-      is = listing;
-      procedures_is = one_call_word (image_of parts).prefix (image_of parts).code items (length (image_of parts).code) f.0 listing f.1 f.2;
-      items_is = omega arith;
-    }

@@ -1,9 +1,9 @@
 -- From the first item that breaks a rule under the least labels to the verdict, and to acceptance.
-use Rattle.std.proofs.Common.{◌≡◌, ◌≢◌, ℕ, zero, suc, ◌+◌, ◌-◌, ◌<◌, ◌≤◌, Bool, true, false, ◌||◌, List, [], ◌∷◌, length, Option, Some, None, refl, sym, ◌∙◌, ap, subst, arith, ◌⊎◌, inl, inr, slice_get}
-use Rattle.std.proofs.lemmas.Bool.{cases_order, true≢false}
+use Rattle.std.proofs.Common.{◌≡◌, ◌≢◌, ℕ, zero, suc, ◌+◌, ◌-◌, ◌<◌, ◌≤◌, Bool, true, false, ◌||◌, ◌&&◌, not, eqb, List, [], ◌∷◌, length, Option, Some, None, refl, sym, ◌∙◌, ap, subst, arith, ◌⊎◌, inl, inr, slice_get}
+use Rattle.std.proofs.lemmas.Bool.{cases_order, true≢false, and_parts, and_from}
 use Rattle.std.proofs.lemmas.Option.{slice_get_within}
 use Rattle.cv_word.specs.MemoryMap.{code_base}
-use Rattle.x64_decode.specs.declared.instr.Reg.TheVariants.{Rax, Rdx, Rsp}
+use Rattle.x64_decode.specs.declared.instr.Reg.TheVariants.{Rax, Rcx, Rdx, Rsp, Rsi, Rdi}
 use Rattle.x64_decode.specs.declared.instr.Seg.{Seg}
 use Rattle.x64_decode.specs.declared.instr.Seg.TheVariants.{Fs, Gs}
 use Rattle.x64_decode.specs.declared.instr.Mem.{Mem}
@@ -14,12 +14,14 @@ use Rattle.code_sweep.specs.declared.item.Item.TheVariants.{Call, Ret, Plain, Re
 use Rattle.code_sweep.specs.declared.item.Placed.{Placed}
 use Rattle.code_sweep.specs.Listing.{BreaksAt}
 use Rattle.taint_flow.specs.Label.{Label, IsAtMost, taint, flags, left_by}
-use Rattle.taint_flow.specs.Flow.{Labelling, MeetsFlow, memory_of, base_is_private, shows_private, has_private_address, stores_private, branches_on_private, divides_private, leaves_private_stack}
+use Rattle.taint_flow.specs.Flow.{Labelling, MeetsFlow, memory_of, base_is_private, shows_private, has_private_address, instruction_stores_private, stores_private, instruction_branches_on_private, branches_on_private, instruction_divides_private, divides_private, leaves_private_stack, passes_private, returns_private}
+use Rattle.taint_flow.specs.Calls.{callee}
+use Rattle.std.specs.Int.{bit_at}
 use Rattle.taint_flow.proofs.Monotone.{left_by_up}
 use Rattle.image_form.specs.Image.{Image}
 use Rattle.conf_verify.specs.declared.rule.Rule.{Rule}
 use Rattle.conf_verify.specs.declared.rule.Rule.TheVariants.{V1, V2, V3, V4, V5, V6, V7, V8, V9, V10, V11, V12, V13, V14, V15, V16}
-use Rattle.conf_verify.specs.Rules.{BreaksShape, BreaksFlow, BreaksUnder, breaks_label, item_breaks, is_flow_rule, rule_number}
+use Rattle.conf_verify.specs.Rules.{BreaksShape, BreaksFlow, BreaksUnder, item_breaks, is_flow_rule, rule_number}
 use Rattle.conf_verify.specs.Search.{BadLabel, IsFirstBroken}
 use Rattle.conf_verify.specs.Verdict.{HasListing, Precedes, IsBefore, IsAcceptedImage}
 use Rattle.conf_verify.specs.Steps.{IsCodeVerdict}
@@ -56,43 +58,84 @@ shown_up : (seg : Seg) (a b : Bool) → (a ≡ true → b ≡ true) → shows_pr
 shown_up Fs a b f e = f e
 shown_up Gs a b f e = e
 
-stores_up : (i : Instr) (l k : Label) → IsAtMost l k → stores_private i l ≡ true → stores_private i k ≡ true
-stores_up (Store width mem src) l k h e = shown_up mem.seg (taint l src) (taint k src) (h _) e
+address_up : (item : Item) (l k : Label) → IsAtMost l k → has_private_address item l ≡ true → has_private_address item k ≡ true
+address_up (Plain i) l k h e = base_up (memory_of i) l k h e
+address_up (ReturnUnit bit) l k h e = h _ e
+address_up (CallUnit r bits) l k h e = h _ e
+address_up (Call bits) l k h e = e
+address_up (Ret bit) l k h e = e
+
+instruction_stores_up : (i : Instr) (l k : Label) → IsAtMost l k → instruction_stores_private i l ≡ true → instruction_stores_private i k ≡ true
+instruction_stores_up (Store width mem src) l k h e = shown_up mem.seg (taint l src) (taint k src) (h _) e
+instruction_stores_up _ l k h e = e
+
+stores_up : (item : Item) (l k : Label) → IsAtMost l k → stores_private item l ≡ true → stores_private item k ≡ true
+stores_up (Plain i) l k h e = instruction_stores_up i l k h e
 stores_up _ l k h e = e
 
-branches_up : (i : Instr) (l k : Label) → IsAtMost l k → branches_on_private i l ≡ true → branches_on_private i k ≡ true
-branches_up (Jcc cc rel) l k h e = h flags e
+instruction_branches_up : (i : Instr) (l k : Label) → IsAtMost l k → instruction_branches_on_private i l ≡ true → instruction_branches_on_private i k ≡ true
+instruction_branches_up (Jcc cc rel) l k h e = h flags e
+instruction_branches_up _ l k h e = e
+
+branches_up : (item : Item) (l k : Label) → IsAtMost l k → branches_on_private item l ≡ true → branches_on_private item k ≡ true
+branches_up (Plain i) l k h e = instruction_branches_up i l k h e
 branches_up _ l k h e = e
 
-divides_up : (i : Instr) (l k : Label) → IsAtMost l k → divides_private i l ≡ true → divides_private i k ≡ true
-divides_up (Idiv r) l k h e =
+instruction_divides_up : (i : Instr) (l k : Label) → IsAtMost l k → instruction_divides_private i l ≡ true → instruction_divides_private i k ≡ true
+instruction_divides_up (Idiv r) l k h e =
     either_up (taint l Rax) (taint l Rdx || taint l r) (taint k Rax) (taint k Rdx || taint k r) (h _)
     (either_up (taint l Rdx) (taint l r) (taint k Rdx) (taint k r) (h _) (h _)) e
+instruction_divides_up _ l k h e = e
+
+divides_up : (item : Item) (l k : Label) → IsAtMost l k → divides_private item l ≡ true → divides_private item k ≡ true
+divides_up (Plain i) l k h e = instruction_divides_up i l k h e
 divides_up _ l k h e = e
 
-label_up : (rule : Rule) (i : Instr) (l k : Label) → IsAtMost l k → breaks_label rule i l ≡ true → breaks_label rule i k ≡ true
-label_up V10 i l k h e = base_up (memory_of i) l k h e
-label_up V11 i l k h e = stores_up i l k h e
-label_up V12 i l k h e = branches_up i l k h e
-label_up V13 i l k h e = divides_up i l k h e
-label_up V14 i l k h e = left_by_up i l k h _ e
-label_up _ i l k h e = absurd (true≢false (sym e))
+stack_up : (item : Item) (l k : Label) → IsAtMost l k → leaves_private_stack item l ≡ true → leaves_private_stack item k ≡ true
+stack_up (Plain i) l k h e = left_by_up i l k h _ e
+stack_up _ l k h e = e
 
-item_up : (rule : Rule) (item : Item) (l k : Label) → IsAtMost l k → item_breaks rule item l ≡ true → item_breaks rule item k ≡ true
-item_up rule (Plain i) l k h e = label_up rule i l k h e
-item_up rule _ l k h e = absurd (true≢false (sym e))
+and_up : (a b c : Bool) → (a ≡ true → c ≡ true) → (a && b) ≡ true → (c && b) ≡ true
+and_up a b c f e = let p = and_parts a b e in and_from c b (f p.0) p.1
 
-flow_rule : (rule : Rule) (i : Instr) (l : Label) → breaks_label rule i l ≡ true → is_flow_rule rule ≡ true
-flow_rule V10 i l e = refl
-flow_rule V11 i l e = refl
-flow_rule V12 i l e = refl
-flow_rule V13 i l e = refl
-flow_rule V14 i l e = refl
-flow_rule _ i l e = absurd (true≢false (sym e))
+passes_up : (called : Option ℕ) (l k : Label) → IsAtMost l k → passes_private called l ≡ true → passes_private called k ≡ true
+passes_up None l k h e = e
+passes_up (Some bits) l k h e =
+    either_up _ _ _ _
+    (either_up _ _ _ _
+    (either_up _ _ _ _
+    (and_up (taint l Rdi) (not (eqb (bit_at bits 0) 1)) (taint k Rdi) (h _))
+    (and_up (taint l Rsi) (not (eqb (bit_at bits 1) 1)) (taint k Rsi) (h _)))
+    (and_up (taint l Rdx) (not (eqb (bit_at bits 2) 1)) (taint k Rdx) (h _)))
+    (and_up (taint l Rcx) (not (eqb (bit_at bits 3) 1)) (taint k Rcx) (h _))
+    e
 
-item_flow_rule : (rule : Rule) (item : Item) (l : Label) → item_breaks rule item l ≡ true → is_flow_rule rule ≡ true
-item_flow_rule rule (Plain i) l e = flow_rule rule i l e
-item_flow_rule rule _ l e = absurd (true≢false (sym e))
+returns_up : (item : Item) (l k : Label) → IsAtMost l k → returns_private item l ≡ true → returns_private item k ≡ true
+returns_up (ReturnUnit bit) l k h e = let p = and_parts (eqb bit 0) (taint l Rax) e in and_from (eqb bit 0) (taint k Rax) p.0 (h _ p.1)
+returns_up (Call bits) l k h e = e
+returns_up (Ret bit) l k h e = e
+returns_up (Plain i) l k h e = e
+returns_up (CallUnit r bits) l k h e = e
+
+item_up : (rule : Rule) (called : Option ℕ) (item : Item) (l k : Label) → IsAtMost l k → item_breaks rule called item l ≡ true → item_breaks rule called item k ≡ true
+item_up V10 called item l k h e = address_up item l k h e
+item_up V11 called item l k h e = stores_up item l k h e
+item_up V12 called item l k h e = branches_up item l k h e
+item_up V13 called item l k h e = divides_up item l k h e
+item_up V14 called item l k h e = stack_up item l k h e
+item_up V15 called item l k h e = passes_up called l k h e
+item_up V16 called item l k h e = returns_up item l k h e
+item_up _ called item l k h e = absurd (true≢false (sym e))
+
+item_flow_rule : (rule : Rule) (called : Option ℕ) (item : Item) (l : Label) → item_breaks rule called item l ≡ true → is_flow_rule rule ≡ true
+item_flow_rule V10 called item l e = refl
+item_flow_rule V11 called item l e = refl
+item_flow_rule V12 called item l e = refl
+item_flow_rule V13 called item l e = refl
+item_flow_rule V14 called item l e = refl
+item_flow_rule V15 called item l e = refl
+item_flow_rule V16 called item l e = refl
+item_flow_rule _ called item l e = absurd (true≢false (sym e))
 
 -- ---- the verdict
 
@@ -143,16 +186,17 @@ not_two : (rule : Rule) → is_flow_rule rule ≡ true → rule ≢ V2
 not_two rule flow two = true≢false (sym flow ∙ ap is_flow_rule two)
 
 every_labelling : (items : List Placed) (labels : Labelling) → ((any : Labelling) → MeetsFlow items any → (i : ℕ) → IsAtMost (labels i) (any i)) → (i : ℕ) (p : Placed) (rule : Rule) → slice_get items i ≡ Some p →
-    item_breaks rule p.item (labels i) ≡ true → BreaksFlow rule items p.at
-every_labelling items labels least i p rule e bad any meets = (i, p, e, refl, item_up rule p.item (labels i) (any i) (least any meets i) bad)
+    item_breaks rule (callee items p) p.item (labels i) ≡ true → BreaksFlow rule items p.at
+every_labelling items labels least i p rule e bad any meets = (i, p, e, refl, item_up rule (callee items p) p.item (labels i) (any i) (least any meets i) bad)
 
 pub told_flow : (image : Image) (items : List Placed) (labels : Labelling) → HasListing image items → MeetsFlow items labels → ((any : Labelling) → MeetsFlow items any → (i : ℕ) → IsAtMost (labels i) (any i)) →
     ((other : Rule) (place : ℕ) → BreaksShape other image items place → ⊥) →
     (i : ℕ) (p : Placed) (rule : Rule) → slice_get items i ≡ Some p → IsLeastBroken items labels i rule → IsCodeVerdict image rule (code_base + p.at)
 told_flow image items labels listing meets most shape i p rule e least =
     let same = some_same least.bad.0 p (sym least.bad.1 ∙ e) in
-    let bad : item_breaks rule p.item (labels i) ≡ true = subst (λ (x : Placed). item_breaks rule x.item (labels i) ≡ true) same least.bad.2 in
-    let flow = item_flow_rule rule p.item (labels i) bad in
+    let bad : item_breaks rule (callee items p) p.item (labels i) ≡ true =
+    subst (λ (x : Placed). item_breaks rule (callee items x) x.item (labels i) ≡ true) same least.bad.2 in
+    let flow = item_flow_rule rule (callee items p) p.item (labels i) bad in
     record {
       broken = of_listing image rule (code_base + p.at) (not_two rule flow) (items, p.at, listing, refl, inr (flow, every_labelling items labels most i p rule e bad));
       first = λ other there h c. sooner_flow image items labels listing meets shape i p rule e least flow other there h (see image other there c);

@@ -1,6 +1,11 @@
 -- A code has one listing, and accepted bytes have no verdict.
-use Rattle.std.proofs.Common.{◌≡◌, ◌≢◌, ℕ, suc, ◌+◌, ◌<◌, ◌≤◌, Bool, true, false, List, [], ◌∷◌, ◌++◌, length, take, drop, get_or, Option, Some, None, refl, sym, ◌∙◌, ap, subst, arith, ◌⊎◌, inl, inr}
+use Rattle.std.proofs.Common.{◌≡◌, ◌≢◌, ℕ, suc, ◌+◌, ◌-◌, ◌<◌, ◌≤◌, Bool, true, false, List, [], ◌∷◌, ◌++◌, length, take, drop, get_or, Option, Some, None, refl, sym, ◌∙◌, ap, subst, arith, ◌⊎◌, inl, inr}
+use Rattle.x64_decode.specs.Spelling.{number, rex, between}
+use Rattle.x64_decode.specs.Reading.{reg_of}
+use Rattle.x64_decode.specs.declared.instr.Reg.{Reg}
 use Rattle.x64_decode.specs.declared.instr.Instr.{Instr}
+use Rattle.x64_decode.proofs.Tables.{reg_again, number_below}
+use Rattle.code_sweep.specs.Units.{return_unit, call_unit}
 use Rattle.code_sweep.specs.declared.item.Item.{Item}
 use Rattle.code_sweep.specs.declared.item.Item.TheVariants.{Call, Ret, Plain, ReturnUnit, CallUnit}
 use Rattle.code_sweep.specs.declared.item.Placed.{Placed}
@@ -22,21 +27,60 @@ first_is a b xs e = cc
 some_is : (i j : Instr) → (let o : Option Instr = Some i in o) ≡ Some j → i ≡ j
 some_is i j e = cc
 
+second_is : (a b c d : ℕ) (xs ys : List ℕ) → a ∷ (b ∷ xs) ≡ c ∷ (d ∷ ys) → b ≡ d
+second_is a b c d xs ys e = cc
+
+kinds_differ : (a b : ℕ) → a ≡ 0x11 → b ≡ 0x22 → a ≡ b → ⊥
+kinds_differ a b e f same = omega arith
+
+words_differ : (m n : ℕ) (prefix : List ℕ) → m ∷ (0x11 ∷ prefix) ≡ n ∷ (0x22 ∷ prefix) → ⊥
+words_differ m n prefix e = kinds_differ 0x11 0x22 refl refl (second_is m 0x11 n 0x22 prefix prefix e)
+
+small_bits : (m n top : ℕ) → m < top → n < top → top ≤ 255 → 255 - m ≡ 255 - n → m ≡ n
+small_bits m n top a b c e = omega arith
+
+same_return : (prefix : List ℕ) (m n : ℕ) → m < 2 → n < 2 → return_unit prefix m ≡ return_unit prefix n → m ≡ n
+same_return prefix m n a b e = small_bits m n 2 a b (omega arith) (ap (λ l. get_or l 19 0) e)
+
+same_register : (r q : Reg) → rex false (number r) 10 ≡ rex false (number q) 10 → between (number r) 10 ≡ between (number q) 10 → r ≡ q
+same_register r q first third =
+    let small : number r < 16 = number_below r in
+    let small' : number q < 16 = number_below q in
+    let e : number r ≡ number q = omega arith in
+    sym (reg_again r) ∙ ap reg_of e ∙ reg_again q
+
+same_call : (prefix : List ℕ) (r q : Reg) (m n : ℕ) → m < 32 → n < 32 → call_unit prefix r m ≡ call_unit prefix q n → CallUnit r m ≡ CallUnit q n
+same_call prefix r q m n a b e =
+    ap (λ x. CallUnit x m) (same_register r q (ap (λ l. get_or l 0 0) e) (ap (λ l. get_or l 2 0) e))
+    ∙ ap (λ x. CallUnit q x) (small_bits m n 32 a b (omega arith) (ap (λ l. get_or l 5 0) e))
+
 pub one_item : (prefix code : List ℕ) (place : ℕ) (a b : Item) → StandsAt prefix code place a → StandsAt prefix code place b → a ≡ b
 unfolding item_bytes
 one_item prefix code place (Call m) (Call n) s t = ap Call (first_is m n (0x11 ∷ prefix) (sym s.is.1 ∙ t.is.1))
+one_item prefix code place (Ret m) (Ret n) s t = ap Ret (first_is m n (0x22 ∷ prefix) (sym s.is.1 ∙ t.is.1))
 one_item prefix code place (Plain i) (Plain j) s t = ap Plain (some_is i j (sym s.is.3 ∙ t.is.3))
+one_item prefix code place (ReturnUnit m) (ReturnUnit n) s t = ap ReturnUnit (same_return prefix m n s.is.1.0 t.is.1.0 (sym s.is.1.1 ∙ t.is.1.1))
+one_item prefix code place (CallUnit r m) (CallUnit q n) s t = same_call prefix r q m n s.is.2.0 t.is.2.0 (sym s.is.2.1 ∙ t.is.2.1)
+one_item prefix code place (Call m) (Ret n) s t = absurd (words_differ m n prefix (sym s.is.1 ∙ t.is.1))
+one_item prefix code place (Ret m) (Call n) s t = absurd (words_differ n m prefix (sym t.is.1 ∙ s.is.1))
 one_item prefix code place (Call m) (Plain j) s t = absurd ((t.is.0 m).0 s.is)
+one_item prefix code place (Call m) (ReturnUnit n) s t = absurd ((t.is.0 m).0 s.is)
+one_item prefix code place (Call m) (CallUnit r n) s t = absurd ((t.is.0 m).0 s.is)
+one_item prefix code place (Ret m) (Plain j) s t = absurd ((t.is.0 m).1 s.is)
+one_item prefix code place (Ret m) (ReturnUnit n) s t = absurd ((t.is.0 m).1 s.is)
+one_item prefix code place (Ret m) (CallUnit r n) s t = absurd ((t.is.0 m).1 s.is)
 one_item prefix code place (Plain i) (Call n) s t = absurd ((s.is.0 n).0 t.is)
-one_item prefix code place (Ret m) b s t = absurd s.admitted
-one_item prefix code place (ReturnUnit m) b s t = absurd s.admitted
-one_item prefix code place (CallUnit r m) b s t = absurd s.admitted
-one_item prefix code place (Call m) (Ret n) s t = absurd t.admitted
-one_item prefix code place (Call m) (ReturnUnit n) s t = absurd t.admitted
-one_item prefix code place (Call m) (CallUnit r n) s t = absurd t.admitted
-one_item prefix code place (Plain i) (Ret n) s t = absurd t.admitted
-one_item prefix code place (Plain i) (ReturnUnit n) s t = absurd t.admitted
-one_item prefix code place (Plain i) (CallUnit r n) s t = absurd t.admitted
+one_item prefix code place (Plain i) (Ret n) s t = absurd ((s.is.0 n).1 t.is)
+one_item prefix code place (Plain i) (ReturnUnit n) s t = absurd (s.is.1 n t.is.1)
+one_item prefix code place (Plain i) (CallUnit r n) s t = absurd (s.is.2 r n t.is.2)
+one_item prefix code place (ReturnUnit m) (Call n) s t = absurd ((s.is.0 n).0 t.is)
+one_item prefix code place (ReturnUnit m) (Ret n) s t = absurd ((s.is.0 n).1 t.is)
+one_item prefix code place (ReturnUnit m) (Plain j) s t = absurd (t.is.1 m s.is.1)
+one_item prefix code place (ReturnUnit m) (CallUnit r n) s t = absurd (t.is.1 m s.is.1)
+one_item prefix code place (CallUnit r m) (Call n) s t = absurd ((s.is.0 n).0 t.is)
+one_item prefix code place (CallUnit r m) (Ret n) s t = absurd ((s.is.0 n).1 t.is)
+one_item prefix code place (CallUnit r m) (Plain j) s t = absurd (t.is.2 r m s.is.2)
+one_item prefix code place (CallUnit r m) (ReturnUnit n) s t = absurd (s.is.1 n t.is.1)
 
 -- ---- one chain
 

@@ -6,8 +6,8 @@ use Rattle.cv_word.specs.MemoryMap.{code_base}
 use Rattle.code_sweep.specs.declared.item.Placed.{Placed}
 use Rattle.taint_flow.specs.Flow.{address}
 use Rattle.taint_flow.specs.Places.{NumbersItems}
-use Rattle.conf_verify.specs.Rules.{is_word, is_call_word, FollowsCallWord}
-use Rattle.conf_verify.specs.Search.{BeginsAt, HasTarget, HasWord}
+use Rattle.conf_verify.specs.Rules.{is_word, is_call_word, procedure_of, IsGoodTarget, FollowsCallWord}
+use Rattle.conf_verify.specs.Search.{BeginsAt, AreProcedures, HasWord}
 
 none_some : {A : Type 0} (x : A) → (let o : Option A = None in o) ≡ Some x → ⊥
 none_some x e = cc
@@ -42,23 +42,50 @@ past_item items number place k n e past =
     let f = n.only place k (sym e) in
     let h = slice_get_within items k f.0 f.1 in omega arith
 
--- ---- the three tests at a place
+-- ---- the tests at a place
 
-pub target_yes : (items : List Placed) (q : Placed) (target : ℕ) → code_base ≤ target → BeginsAt items q (target - code_base) → not (is_word q.item) ≡ true → HasTarget items target
-target_yes items q target low b word = (b.0, q, b.1, let h = b.2 in omega arith, not-true (is_word q.item) word)
+pub target_low : (items : List Placed) (i target : ℕ) → target < code_base → IsGoodTarget items i target → ⊥
+target_low items i target low h = let e = h.3 in omega arith
 
-pub target_no : (items : List Placed) (q : Placed) (target : ℕ) → ((j : ℕ) (x : Placed) → slice_get items j ≡ Some x → x.at ≡ target - code_base → (let o : Option Placed = Some q in o) ≡ Some x) →
-    not (is_word q.item) ≡ false → HasTarget items target → ⊥
-target_no items q target only word h =
-    let same = some_same q h.1 (only h.0 h.1 h.2 (let e = h.3 in omega arith)) in
-    true≢false (sym (ap (λ (x : Placed). is_word x.item) (sym same) ∙ not-false (is_word q.item) word) ∙ h.4)
+pub target_none : (items : List Placed) (number : ℕ → Option ℕ) (i target : ℕ) → NumbersItems items number → (let o : Option ℕ = None in o) ≡ number (target - code_base) →
+    IsGoodTarget items i target → ⊥
+target_none items number i target n e h = no_number items number (target - code_base) n e h.0 h.1 h.2 (let at = h.3 in omega arith)
 
-pub target_none : (items : List Placed) (target : ℕ) → ((j : ℕ) (x : Placed) → slice_get items j ≡ Some x → x.at ≡ target - code_base → (let o : Option Placed = None in o) ≡ Some x) →
-    HasTarget items target → ⊥
-target_none items target only h = none_some h.1 (only h.0 h.1 h.2 (let e = h.3 in omega arith))
+pub target_past : (items : List Placed) (number : ℕ → Option ℕ) (i target j : ℕ) → NumbersItems items number → (let o : Option ℕ = Some j in o) ≡ number (target - code_base) →
+    length items ≤ j → IsGoodTarget items i target → ⊥
+target_past items number i target j n e past h = past_item items number (target - code_base) j n e past
 
-pub target_low : (items : List Placed) (target : ℕ) → target < code_base → HasTarget items target → ⊥
-target_low items target low h = let e = h.3 in omega arith
+pub target_yes : (items : List Placed) (number : ℕ → Option ℕ) (procedures : List ℕ) (i target j : ℕ) (d : Placed) → NumbersItems items number → AreProcedures items procedures →
+    code_base ≤ target → (let o : Option ℕ = Some j in o) ≡ number (target - code_base) → i < length items → not (is_word (get_or items j d).item) ≡ true →
+    get_or procedures j 0 ≡ get_or procedures i 0 → IsGoodTarget items i target
+target_yes items number procedures i target j d n p low e inside word same =
+    let f = n.only (target - code_base) j (sym e) in
+    let here = get_or_from_slice_get items j f.0 d f.1 in
+    let within : j < length items = slice_get_within items j f.0 f.1 in
+    (
+      j,
+      get_or items j d,
+      slice_get-get_or items j d within,
+      (let at : (get_or items j d).at ≡ target - code_base = ap (λ (x : Placed). x.at) here ∙ f.2 in omega arith),
+      not-true (is_word (get_or items j d).item) word,
+      sym (p.each j within) ∙ same ∙ p.each i inside,
+    )
+
+pub target_no : (items : List Placed) (number : ℕ → Option ℕ) (procedures : List ℕ) (i target j : ℕ) → NumbersItems items number → AreProcedures items procedures →
+    (let o : Option ℕ = Some j in o) ≡ number (target - code_base) → i < length items → (get_or procedures j 0 ≡ get_or procedures i 0 → ⊥) →
+    IsGoodTarget items i target → ⊥
+target_no items number procedures i target j n p e inside other h =
+    let same : h.0 ≡ j = this_number items number (target - code_base) j n e h.0 h.1 h.2 (let at = h.3 in omega arith) in
+    let within : h.0 < length items = slice_get_within items h.0 h.1 h.2 in
+    let there : j < length items = omega arith in
+    other (p.each j there ∙ ap (λ k. procedure_of items k) (sym same) ∙ h.5 ∙ sym (p.each i inside))
+
+pub target_word : (items : List Placed) (number : ℕ → Option ℕ) (i target j : ℕ) (d : Placed) → NumbersItems items number →
+    (let o : Option ℕ = Some j in o) ≡ number (target - code_base) → not (is_word (get_or items j d).item) ≡ false → IsGoodTarget items i target → ⊥
+target_word items number i target j d n e word h =
+    let same : h.0 ≡ j = this_number items number (target - code_base) j n e h.0 h.1 h.2 (let at = h.3 in omega arith) in
+    let here = get_or_from_slice_get items j h.1 d (ap (λ k. slice_get items k) (sym same) ∙ h.2) in
+    true≢false (sym (not-false (is_word (get_or items j d).item) word) ∙ ap (λ (x : Placed). is_word x.item) here ∙ h.4)
 
 pub word_yes : (items : List Placed) (q : Placed) (place : ℕ) → 2 ≤ place → BeginsAt items q (place - 2) → is_word q.item ≡ true → HasWord items place
 word_yes items q place low b word = (b.0, q, b.1, word, let h = b.2 in omega arith)

@@ -2,7 +2,7 @@
 use Rattle.std.proofs.Common.{◌≡◌, ◌≢◌, ℕ, zero, suc, ◌+◌, ◌-◌, ◌<◌, ◌≤◌, Bool, true, false, List, [], ◌∷◌, length, take, drop, get_or, slice_index, Option, Some, None, refl, sym, ◌∙◌, ap, subst, arith, ◌⊎◌, inl, inr, slice_get}
 use Rattle.std.proofs.lemmas.Bool.{cases_order, cases_lt, cases_Bool, true≢false}
 use Rattle.std.proofs.lemmas.List.{drop_all}
-use Rattle.std.proofs.lemmas.Option.{slice_get_within}
+use Rattle.std.proofs.lemmas.Option.{slice_get_within, slice_get-get_or}
 use Rattle.cv_word.specs.MemoryMap.{code_base}
 use Rattle.x64_decode.specs.declared.instr.Instr.{Instr}
 use Rattle.x64_decode.specs.declared.instr.Instr.TheVariants as instr
@@ -17,12 +17,14 @@ use Rattle.taint_flow.specs.Places.{goes_on, NextStands}
 use Rattle.image_form.specs.Image.{Image, IsGood}
 use Rattle.conf_verify.specs.declared.rule.Rule.{Rule}
 use Rattle.conf_verify.specs.declared.rule.Rule.TheVariants.{V1, V2, V3, V4, V5, V6, V7, V8, V9, V10, V11, V12, V13, V14, V15, V16}
-use Rattle.conf_verify.specs.Rules.{BreaksShape, BreaksFlow, BreaksUnder, BreaksEnds, BreaksPrefix, BreaksJumps, BreaksEntries, FollowsCallWord, IsGoodTarget, IsLast, procedure_of, is_word, is_call_word, may_end, is_flow_rule, rule_number}
-use Rattle.conf_verify.specs.Search.{BadEnd, BadJump, BadOccurrence, HasTarget, HasWord}
+use Rattle.conf_verify.specs.Rules.{BreaksShape, BreaksFlow, BreaksUnder, BreaksEnds, BreaksPrefix, BreaksReturns, BreaksJumps, BreaksCalls, BreaksResults, BreaksEntries, HasReturnWord, fits_result, FollowsCall, FollowsCallWord, IsGoodTarget, IsLast, procedure_bits, is_word, is_call_word, may_end, is_flow_rule, rule_number}
+use Rattle.taint_flow.specs.Calls.{callee, call_target, is_call}
+use Rattle.std.specs.Int.{bit_at}
+use Rattle.conf_verify.specs.Search.{BadEnd, BadReturn, BadJump, BadCall, BadResult, BadOccurrence, HasWord}
 use Rattle.conf_verify.specs.Verdict.{HasListing}
 use Rattle.conf_verify.specs.Steps.{IsCodeVerdict, HoldsBelow}
 use Rattle.conf_verify.proofs.Order.{same_number}
-use Rattle.conf_verify.proofs.Chains.{chain_rising, one_procedure}
+use Rattle.conf_verify.proofs.Chains.{chain_rising}
 use Rattle.conf_verify.proofs.Told.{told_shape}
 
 some_same : {A : Type 0} (x y : A) → (let o : Option A = Some x in o) ≡ Some y → x ≡ y
@@ -75,18 +77,26 @@ more_holds image items r n is below none rule place low b =
 none_below : (image : Image) (items : List Placed) → HoldsBelow image items 1
 none_below image items rule place low b = let some = some_number rule in omega arith
 
-holds_three : (image : Image) (items : List Placed) → HoldsBelow image items 3
+pub holds_three : (image : Image) (items : List Placed) → HoldsBelow image items 3
 holds_three image items = more_holds image items V2 2 refl (more_holds image items V1 1 refl (none_below image items) (λ place b. b)) (λ place b. b)
 
 pub holds_four : (image : Image) (items : List Placed) → ((place : ℕ) → BreaksEnds items place → ⊥) → HoldsBelow image items 4
 holds_four image items none = more_holds image items V3 3 refl (holds_three image items) none
 
-pub holds_six : (image : Image) (items : List Placed) → HoldsBelow image items 4 → ((place : ℕ) → BreaksPrefix image.prefix image.code items place → ⊥) → HoldsBelow image items 6
-holds_six image items below none = more_holds image items V5 5 refl (more_holds image items V4 4 refl below none) (λ place b. b)
+pub holds_five : (image : Image) (items : List Placed) → HoldsBelow image items 4 → ((place : ℕ) → BreaksPrefix image.prefix image.code items place → ⊥) → HoldsBelow image items 5
+holds_five image items below none = more_holds image items V4 4 refl below none
 
-pub holds_nine : (image : Image) (items : List Placed) → HoldsBelow image items 6 → ((place : ℕ) → BreaksJumps items place → ⊥) → HoldsBelow image items 9
-holds_nine image items below none =
-    more_holds image items V8 8 refl (more_holds image items V7 7 refl (more_holds image items V6 6 refl below none) (λ place b. b)) (λ place b. b)
+pub holds_six : (image : Image) (items : List Placed) → HoldsBelow image items 5 → ((place : ℕ) → BreaksReturns items place → ⊥) → HoldsBelow image items 6
+holds_six image items below none = more_holds image items V5 5 refl below none
+
+pub holds_seven : (image : Image) (items : List Placed) → HoldsBelow image items 6 → ((place : ℕ) → BreaksJumps items place → ⊥) → HoldsBelow image items 7
+holds_seven image items below none = more_holds image items V6 6 refl below none
+
+pub holds_eight : (image : Image) (items : List Placed) → HoldsBelow image items 7 → ((place : ℕ) → BreaksCalls items place → ⊥) → HoldsBelow image items 8
+holds_eight image items below none = more_holds image items V7 7 refl below none
+
+pub holds_nine : (image : Image) (items : List Placed) → HoldsBelow image items 8 → ((place : ℕ) → BreaksResults items place → ⊥) → HoldsBelow image items 9
+holds_nine image items below none = more_holds image items V8 8 refl below none
 
 -- a rule with another number isn't a rule on shapes
 number_of_last : (rule : Rule) → 9 < rule_number rule → (image : Image) (items : List Placed) (place : ℕ) → BreaksShape rule image items place → ⊥
@@ -94,10 +104,10 @@ number_of_last V1 h image items place b = b
 number_of_last V2 h image items place b = b
 number_of_last V3 h image items place b = omega arith
 number_of_last V4 h image items place b = omega arith
-number_of_last V5 h image items place b = b
+number_of_last V5 h image items place b = omega arith
 number_of_last V6 h image items place b = omega arith
-number_of_last V7 h image items place b = b
-number_of_last V8 h image items place b = b
+number_of_last V7 h image items place b = omega arith
+number_of_last V8 h image items place b = omega arith
 number_of_last V9 h image items place b = omega arith
 number_of_last V10 h image items place b = b
 number_of_last V11 h image items place b = b
@@ -115,20 +125,71 @@ holds_all image items below none rule place b =
       | inr h ↦ elim h [ inl lower ↦ ten rule place (omega arith) b | inr higher ↦ number_of_last rule higher image items place b ]
     ]
 
+-- ---- rules that speak of items one by one
+
+-- a rule is broken just where an item is bad
+pub record ByItem (image : Image) (items : List Placed) (rule : Rule) (Bad : ℕ → Type 0) : Type 0 where
+  pub to : (i : ℕ) (p : Placed) → slice_get items i ≡ Some p → Bad i → BreaksShape rule image items p.at
+  pub from : (place : ℕ) → BreaksShape rule image items place → (i : ℕ) × (p : Placed) × (slice_get items i ≡ Some p) × (p.at ≡ place) × Bad i
+
+-- the first bad item gives the verdict
+told_by_item : (image : Image) (items : List Placed) (rule : Rule) (Bad : ℕ → Type 0) (i : ℕ) (p : Placed) → ByItem image items rule Bad → HasListing image items →
+    is_flow_rule rule ≡ false → slice_get items i ≡ Some p → Bad i → ((j : ℕ) → j < i → Bad j → ⊥) → HoldsBelow image items (rule_number rule) →
+    IsCodeVerdict image rule (code_base + p.at)
+told_by_item image items rule Bad i p by listing shape e bad first below =
+    told_shape image items listing rule p.at shape (by.to i p e bad)
+    (λ place low b. let f = by.from place b in let at = f.3 in
+    least_place image.prefix image.code items Bad i p listing e first f.0 f.1 f.2 (omega arith) f.4)
+    below
+
+pub told_at : (image : Image) (items : List Placed) (rule : Rule) (Bad : ℕ → Type 0) (i : ℕ) (d : Placed) → ByItem image items rule Bad → HasListing image items →
+    is_flow_rule rule ≡ false → (i < length items) × Bad i × ((j : ℕ) → j < i → Bad j → ⊥) → HoldsBelow image items (rule_number rule) →
+    IsCodeVerdict image rule (code_base + (get_or items i d).at)
+told_at image items rule Bad i d by listing shape found below =
+    told_by_item image items rule Bad i (get_or items i d) by listing shape (slice_get-get_or items i d found.0) found.1 found.2 below
+
+pub none_by_item : (image : Image) (items : List Placed) (rule : Rule) (Bad : ℕ → Type 0) → ByItem image items rule Bad → ((j : ℕ) → j < length items → Bad j → ⊥) →
+    (place : ℕ) → BreaksShape rule image items place → ⊥
+none_by_item image items rule Bad by none place b = let f = by.from place b in none f.0 (slice_get_within items f.0 f.1 f.2) f.4
+
+pub by_ends : (image : Image) (items : List Placed) → ByItem image items V3 (BadEnd items)
+by_ends image items = record {
+  to = λ i p e bad. (i, p, e, refl,
+      subst (λ (x : Placed). ((i ≡ 0) × (is_call_word x.item ≡ false)) ⊎ (IsLast items i × (may_end x.item ≡ false))) (some_same bad.0 p (sym bad.1 ∙ e)) bad.2);
+  from = λ place b. (b.0, b.1, b.2, b.3, (b.1, b.2, b.4));
+}
+
+abbrev ReturnsBadly : List Placed → ℕ → Placed → Type 0
+ReturnsBadly items i p =
+    ((is_call p.item ≡ true) × ((bit : ℕ) → HasReturnWord items i bit → fits_result (callee items p) bit ≡ true → ⊥))
+    ⊎ ((bit : ℕ) × (p.item ≡ Ret bit) × (FollowsCall items i → ⊥))
+
+pub by_returns : (image : Image) (items : List Placed) → ByItem image items V5 (BadReturn items)
+by_returns image items = record {
+  to = λ i p e bad. (i, p, e, refl, subst (λ (x : Placed). ReturnsBadly items i x) (some_same bad.0 p (sym bad.1 ∙ e)) bad.2);
+  from = λ place b. (b.0, b.1, b.2, b.3, (b.1, b.2, b.4));
+}
+
+pub by_jumps : (image : Image) (items : List Placed) → ByItem image items V6 (BadJump items)
+by_jumps image items = record {
+  to = λ i p e bad. (i, p, bad.1, e, refl, subst (λ (x : Placed). jump_target x ≡ Some bad.1) (some_same bad.0 p (sym bad.2 ∙ e)) bad.3, bad.4);
+  from = λ place b. (b.0, b.1, b.3, b.4, (b.1, b.2, b.3, b.5, b.6));
+}
+
+pub by_calls : (image : Image) (items : List Placed) → ByItem image items V7 (BadCall items)
+by_calls image items = record {
+  to = λ i p e bad. let same = some_same bad.0 p (sym bad.2 ∙ e) in
+      (i, p, bad.1, e, refl, subst (λ (x : Placed). call_target x ≡ Some bad.1) same bad.3, subst (λ (x : Placed). callee items x ≡ None) same bad.4);
+  from = λ place b. (b.0, b.1, b.3, b.4, (b.1, b.2, b.3, b.5, b.6));
+}
+
+pub by_results : (image : Image) (items : List Placed) → ByItem image items V8 (BadResult items)
+by_results image items = record {
+  to = λ i p e bad. (i, p, bad.1, bad.2, e, refl, subst (λ (x : Placed). x.item ≡ ReturnUnit bad.1) (some_same bad.0 p (sym bad.3 ∙ e)) bad.4, bad.5, bad.6);
+  from = λ place b. (b.0, b.1, b.4, b.5, (b.1, b.2, b.3, b.4, b.6, b.7, b.8));
+}
+
 -- ---- V3
-
-pub told_ends : (image : Image) (items : List Placed) (i : ℕ) (p : Placed) → HasListing image items → slice_get items i ≡ Some p → BadEnd items i → ((j : ℕ) → j < i → BadEnd items j → ⊥) →
-    IsCodeVerdict image V3 (code_base + p.at)
-told_ends image items i p listing e bad first =
-    let same = some_same bad.0 p (sym bad.1 ∙ e) in
-    told_shape image items listing V3 p.at refl
-    (i, p, e, refl, subst (λ (x : Placed). ((i ≡ 0) × (is_call_word x.item ≡ false)) ⊎ (IsLast items i × (may_end x.item ≡ false))) same bad.2)
-    (λ place low b. let at = b.3 in
-    least_place image.prefix image.code items (BadEnd items) i p listing e first b.0 b.1 b.2 (omega arith) (b.1, b.2, b.4))
-    (holds_three image items)
-
-pub no_ends : (items : List Placed) → ((j : ℕ) → j < length items → BadEnd items j → ⊥) → (place : ℕ) → BreaksEnds items place → ⊥
-no_ends items none place b = none b.0 (slice_get_within items b.0 b.1 b.2) (b.1, b.2, b.4)
 
 -- the first item is a call word
 pub first_is_call : (image : Image) (items : List Placed) → IsGood image → HasListing image items → HoldsBelow image items 4 → (first : Placed) × (slice_get items 0 ≡ Some first) × (is_call_word first.item ≡ true)
@@ -194,35 +255,6 @@ pub no_prefix : (image : Image) (items : List Placed) (places : List ℕ) → Is
 no_prefix image items places good are none place b =
     let found = are.all place (occurs_inside image.prefix image.code place good.prefix_len b.0) b.0 in
     none found.0 found.1 (λ word. b.1 word.0 word.1 word.2 word.3 (word.4 ∙ found.2))
-
--- ---- V6
-
--- there is one procedure: a target that is an item and no word is a good one
-good_target : (image : Image) (items : List Placed) → IsGood image → HasListing image items → HoldsBelow image items 4 → (i : ℕ) (p : Placed) (target : ℕ) → slice_get items i ≡ Some p → HasTarget items target → IsGoodTarget items i target
-good_target image items good listing below i p target e h =
-    let f = first_is_call image items good listing below in
-    let one : (j : ℕ) (q : Placed) → slice_get items j ≡ Some q → procedure_of items j ≡ 1 = λ j q g. one_procedure image.prefix image.code items (length image.code) j q f.0 listing f.1 f.2 g in
-    (h.0, h.1, h.2, h.3, h.4, one h.0 h.1 h.2 ∙ sym (one i p e))
-
-is_bad : (image : Image) (items : List Placed) → IsGood image → HasListing image items → HoldsBelow image items 4 → (place : ℕ) (b : BreaksJumps items place) → BadJump items b.0
-is_bad image items good listing below place b = (b.1, b.2, b.3, b.5, λ h. b.6 (good_target image items good listing below b.0 b.1 b.2 b.3 h))
-
-pub holds_lower : (image : Image) (items : List Placed) → HoldsBelow image items 6 → HoldsBelow image items 4
-holds_lower image items below rule place low b = below rule place (omega arith) b
-
-pub told_jumps : (image : Image) (items : List Placed) (i : ℕ) (p : Placed) → IsGood image → HasListing image items → slice_get items i ≡ Some p → BadJump items i → ((j : ℕ) → j < i → BadJump items j → ⊥) →
-    HoldsBelow image items 6 → IsCodeVerdict image V6 (code_base + p.at)
-told_jumps image items i p good listing e bad first below =
-    let same = some_same bad.0 p (sym bad.2 ∙ e) in
-    told_shape image items listing V6 p.at refl
-    (i, p, bad.1, e, refl, subst (λ (x : Placed). jump_target x ≡ Some bad.1) same bad.3, λ h. bad.4 (h.0, h.1, h.2, h.3, h.4))
-    (λ place low b. let at = b.4 in
-    least_place image.prefix image.code items (BadJump items) i p listing e first b.0 b.1 b.3 (omega arith)
-    (is_bad image items good listing (holds_lower image items below) place b))
-    below
-
-pub no_jumps : (image : Image) (items : List Placed) → IsGood image → HasListing image items → HoldsBelow image items 4 → ((j : ℕ) → j < length items → BadJump items j → ⊥) → (place : ℕ) → BreaksJumps items place → ⊥
-no_jumps image items good listing below none place b = none b.0 (slice_get_within items b.0 b.1 b.3) (is_bad image items good listing below place b)
 
 -- ---- V9
 

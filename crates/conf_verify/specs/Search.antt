@@ -1,9 +1,13 @@
 -- The first of so many items at which something is bad, by its number.
-use Rattle.std.specs.Prelude.{◌≡◌, ◌<◌, ℕ, suc, ◌+◌, Bool, true, false, ◌⊎◌, List, length, Option, Some, MatchOption, slice_get, slice_index}
+use Rattle.std.specs.Prelude.{◌≡◌, ◌≢◌, ◌<◌, ℕ, suc, ◌+◌, Bool, true, false, ◌⊎◌, List, length, Option, Some, None, MatchOption, slice_get, slice_index}
+use Rattle.std.specs.Int.{bit_at}
+use Rattle.code_sweep.specs.declared.item.Item.{Item}
+use Rattle.code_sweep.specs.declared.item.Item.TheVariants.{Ret, ReturnUnit}
 use Rattle.code_sweep.specs.declared.item.Placed.{Placed}
-use Rattle.taint_flow.specs.Flow.{address, jump_target, Labelling}
+use Rattle.taint_flow.specs.Flow.{jump_target, Labelling}
+use Rattle.taint_flow.specs.Calls.{call_target, callee, is_call}
 use Rattle.conf_verify.specs.declared.rule.Rule.{Rule}
-use Rattle.conf_verify.specs.Rules.{is_word, is_call_word, may_end, IsLast, item_breaks, rule_number}
+use Rattle.conf_verify.specs.Rules.{is_word, is_call_word, may_end, IsLast, HasReturnWord, fits_result, FollowsCall, IsGoodTarget, procedure_of, procedure_bits, item_breaks, rule_number}
 
 -- the answer is the first number below a bound that is bad, or None where none is
 abbrev pub IsFirstBad : (ℕ → Type 0) → ℕ → Option ℕ → Type 0
@@ -17,13 +21,39 @@ BeginsAt items q place = (j : ℕ) × (slice_get items j ≡ Some q) × (q.at �
 abbrev pub BadEnd : List Placed → ℕ → Type 0
 BadEnd items i = (p : Placed) × (slice_get items i ≡ Some p) × (((i ≡ 0) × (is_call_word p.item ≡ false)) ⊎ (IsLast items i × (may_end p.item ≡ false)))
 
--- an item that is no word stands at the address
-abbrev pub HasTarget : List Placed → ℕ → Type 0
-HasTarget items target = (j : ℕ) × (q : Placed) × (slice_get items j ≡ Some q) × (address q ≡ target) × (is_word q.item ≡ false)
-
--- item i is a jump and no item but a word stands at its target
+-- item i is a jump and its target is no item of its procedure, or a word
 abbrev pub BadJump : List Placed → ℕ → Type 0
-BadJump items i = (p : Placed) × (target : ℕ) × (slice_get items i ≡ Some p) × (jump_target p ≡ Some target) × (HasTarget items target → ⊥)
+BadJump items i = (p : Placed) × (target : ℕ) × (slice_get items i ≡ Some p) × (jump_target p ≡ Some target) × (IsGoodTarget items i target → ⊥)
+
+-- item i is a call behind which no return word stands that fits, or a return word that follows no call
+abbrev pub BadReturn : List Placed → ℕ → Type 0
+BadReturn items i =
+    (p : Placed) × (slice_get items i ≡ Some p) ×
+    (((is_call p.item ≡ true) × ((bit : ℕ) → HasReturnWord items i bit → fits_result (callee items p) bit ≡ true → ⊥))
+    ⊎ ((bit : ℕ) × (p.item ≡ Ret bit) × (FollowsCall items i → ⊥)))
+
+-- item i is a direct call with a bad target
+abbrev pub BadCall : List Placed → ℕ → Type 0
+BadCall items i = (p : Placed) × (target : ℕ) × (slice_get items i ≡ Some p) × (call_target p ≡ Some target) × (callee items p ≡ None)
+
+-- item i is a return unit whose bit isn't that of its procedure
+abbrev pub BadResult : List Placed → ℕ → Type 0
+BadResult items i =
+    (p : Placed) × (bit bits : ℕ) × (slice_get items i ≡ Some p) × (p.item ≡ ReturnUnit bit) × (procedure_bits items i ≡ Some bits) × (bit ≢ bit_at bits 4)
+
+-- the item is a return unit whose bit isn't bit 4 of these bits
+abbrev pub IsBadResult : Item → Option ℕ → Type 0
+IsBadResult item procedure = (bit bits : ℕ) × (item ≡ ReturnUnit bit) × (procedure ≡ Some bits) × (bit ≢ bit_at bits 4)
+
+-- the bit of a return word
+abbrev pub ret_bit : Item → Option ℕ
+ret_bit (Ret bit) = Some bit
+ret_bit _ = None
+
+-- the numbers are those of the items' procedures
+pub record AreProcedures (items : List Placed) (numbers : List ℕ) : Type 0 where
+  pub len : length numbers ≡ length items
+  pub each : (i : ℕ) → i < length items → slice_index numbers i ≡ procedure_of items i
 
 -- a word whose prefix stands at the place
 abbrev pub HasWord : List Placed → ℕ → Type 0
@@ -35,7 +65,7 @@ BadOccurrence items places k = HasWord items (slice_index places k) → ⊥
 
 -- item i breaks a rule on labels
 abbrev pub BadLabel : List Placed → Labelling → Rule → ℕ → Type 0
-BadLabel items labels rule i = (p : Placed) × (slice_get items i ≡ Some p) × (item_breaks rule p.item (labels i) ≡ true)
+BadLabel items labels rule i = (p : Placed) × (slice_get items i ≡ Some p) × (item_breaks rule (callee items p) p.item (labels i) ≡ true)
 
 -- the answer is the first item that breaks such a rule, and the lowest that it breaks; None where none does
 abbrev pub IsFirstBroken : List Placed → Labelling → Option (ℕ × Rule) → Type 0

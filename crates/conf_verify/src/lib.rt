@@ -4,6 +4,7 @@
 //! keeps in its type that its image is accepted.
 #![tactic(auto)]
 
+mod calls;
 mod law;
 mod rule;
 mod shape;

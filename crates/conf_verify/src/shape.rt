@@ -1,19 +1,22 @@
 //! The rules on the shape of a listing: how procedures end, where jumps go, where the prefix stands.
 
-ghost use Rattle.std.specs.Prelude.{◌≡◌, ◌<◌, ◌+◌, ◌≤◌, ◌^◌, ℕ, IsTrue, true, false, length, slice_get, slice_index, Some, IfSome};
+ghost use Rattle.std.specs.Prelude.{◌≡◌, ◌<◌, ◌+◌, ◌≤◌, ◌^◌, ℕ, IsTrue, true, false, length, slice_get, slice_index, Some, IfSome, IfOk, if◌then◌else◌};
 ghost use Rattle.code_sweep.specs.declared.item.Placed.{Placed};
 ghost use Rattle.taint_flow.specs.Places.{NumbersItems, number_at};
-ghost use Rattle.conf_verify.specs.Rules.{is_word, is_call_word, may_end, IsLast, FollowsCallWord};
-ghost use Rattle.conf_verify.specs.Search.{BeginsAt, IsFirstBad, BadEnd, HasTarget, BadJump, HasWord, BadOccurrence};
+ghost use Rattle.conf_verify.specs.Rules.{is_word, is_call_word, may_end, IsGoodTarget, IsLast, FollowsCallWord};
+ghost use Rattle.conf_verify.specs.Search.{AreProcedures, BeginsAt, IsFirstBad, BadEnd, BadJump, HasWord, BadOccurrence};
 
 use code_sweep::{Item, Placed};
+use cv_word::NoMemory;
+use std::alloc::Global;
 use taint_flow::{ItemNumbers, jump_target};
 use x64_decode::Instr;
 
 /// The flat address of a code's first byte.
 pub const CODE_BASE: u64 = 0x1_0000;
 
-fn is_word(item: &Item) -> bool
+/// Whether the item is a word.
+pub fn is_word(item: &Item) -> bool
     ensures { result ≡ is_word item.now }
 {
     match *item {
@@ -23,13 +26,22 @@ fn is_word(item: &Item) -> bool
     }
 }
 
-fn is_call_word(item: &Item) -> bool
+/// Whether the item is a call word.
+pub fn is_call_word(item: &Item) -> bool
     ensures { result ≡ is_call_word item.now }
 {
     match *item {
         Item::Call(_) => true,
         _ => false,
     }
+}
+
+/// 1 where the test holds, else 0.
+pub fn one_where(test: bool) -> u32
+    ensures value { result ≡ (if test then 1 else 0) }
+    ensures most { result ≤ 1 }
+{
+    if test { 1 } else { 0 }
 }
 
 /// Whether an item may be the last of a procedure.
@@ -98,23 +110,57 @@ fn item_at_place(items: &[Placed], numbers: &ItemNumbers, place: u64) -> Option<
     Some(items[j])
 }
 
-/// Whether an item that is no word stands at a flat address.
-fn has_target(items: &[Placed], numbers: &ItemNumbers, target: u64) -> bool
-    requires { NumbersItems items.now (number_at numbers.now) }
-    ensures yes { IsTrue result → HasTarget items.now target }
-    ensures no { result ≡ false → HasTarget items.now target → ⊥ }
+/// The number of each item's procedure: how many call words there are up to it.
+pub fn procedure_numbers(alloc: Global, items: &[Placed]) -> Result<Vec<u32>, NoMemory>
+    requires { length items.now < 2 ^ 32 }
+    ensures { IfOk result (λ numbers. AreProcedures items.now numbers.items) }
+{
+    let mut numbers = Vec::with_capacity(alloc, items.len())?;
+    let mut count = 0;
+    for i in 0..items.len() {
+        let p = items[i];
+        count += one_where(is_call_word(&p.item));
+        numbers.push(count)?;
+    }
+    Ok(numbers)
+}
+
+/// Whether an item of item `i`'s procedure that is no word stands at a flat address.
+fn is_good_target(
+    items: &[Placed],
+    numbers: &ItemNumbers,
+    procedures: &[u32],
+    i: usize,
+    target: u64,
+) -> bool
+    requires numbers { NumbersItems items.now (number_at numbers.now) }
+    requires procedures { AreProcedures items.now procedures.now }
+    requires inside { i < length items.now }
+    ensures yes { IsTrue result → IsGoodTarget items.now i target }
+    ensures no { result ≡ false → IsGoodTarget items.now i target → ⊥ }
 {
     if target < CODE_BASE {
         return false;
     }
-    let Some(q) = item_at_place(items, numbers, target - CODE_BASE) else {
+    let Some(j) = numbers.at(target - CODE_BASE) else {
         return false;
     };
-    !is_word(&q.item)
+    let j = j as usize;
+    if j >= items.len() {
+        return false;
+    }
+    let q = items[j];
+    !is_word(&q.item) && procedures[j] == procedures[i]
 }
 
-fn is_bad_jump(items: &[Placed], numbers: &ItemNumbers, i: usize) -> bool
+fn is_bad_jump(
+    items: &[Placed],
+    numbers: &ItemNumbers,
+    procedures: &[u32],
+    i: usize,
+) -> bool
     requires numbers { NumbersItems items.now (number_at numbers.now) }
+    requires procedures { AreProcedures items.now procedures.now }
     requires inside { i < length items.now }
     ensures yes { IsTrue result → BadJump items.now i }
     ensures no { result ≡ false → BadJump items.now i → ⊥ }
@@ -123,16 +169,17 @@ fn is_bad_jump(items: &[Placed], numbers: &ItemNumbers, i: usize) -> bool
     let Some(target) = jump_target(&p) else {
         return false;
     };
-    !has_target(items, numbers, target)
+    !is_good_target(items, numbers, procedures, i, target)
 }
 
-/// The first jump whose target is no item, or a word.
-pub fn bad_jump(items: &[Placed], numbers: &ItemNumbers) -> Option<usize>
-    requires { NumbersItems items.now (number_at numbers.now) }
+/// The first jump whose target is no item of its procedure, or a word.
+pub fn bad_jump(items: &[Placed], numbers: &ItemNumbers, procedures: &[u32]) -> Option<usize>
+    requires numbers { NumbersItems items.now (number_at numbers.now) }
+    requires procedures { AreProcedures items.now procedures.now }
     ensures { IsFirstBad (BadJump items.now) (length items.now) result }
 {
     for i in 0..items.len() {
-        if is_bad_jump(items, numbers, i) {
+        if is_bad_jump(items, numbers, procedures, i) {
             return Some(i);
         }
     }

@@ -1,21 +1,25 @@
 //! What is accepted, and what is refused.
 
-ghost use Rattle.std.specs.Prelude.{◌≡◌, ◌+◌, ℕ, length, OnOk, IfOk, IfErr};
+ghost use Rattle.std.specs.Prelude.{◌≡◌, ◌+◌, ◌<◌, ◌^◌, ℕ, length, OnOk, IfOk, IfErr};
 ghost use Rattle.cv_word.specs.MemoryMap.{code_base};
 ghost use Rattle.taint_flow.specs.Places.{NumbersItems, number_at};
 ghost use Rattle.conf_verify.specs.declared.rule.Rule.{Rule};
 ghost use Rattle.conf_verify.specs.declared.rule.Rule.TheVariants.{V1};
 ghost use Rattle.conf_verify.specs.declared.verdict.VerifyError.TheVariants.{NoMemory, Refused};
-ghost use Rattle.conf_verify.specs.Rules.{BreaksShape};
+ghost use Rattle.conf_verify.specs.Rules.{BreaksShape, call_words, plain_items};
 ghost use Rattle.conf_verify.specs.Steps.{IsCodeRefusal, HoldsBelow};
 ghost use Rattle.image_form.specs.Image.{IsGood};
 ghost use Rattle.conf_verify.specs.Verdict.{IsImage, IsAccepted, IsAcceptedImage, HasListing};
 ghost use Rattle.conf_verify.specs.Answer.{Checked, image_of, checked_of, HasCounts, IsRefusal};
 
+use crate::calls::{bad_call, bad_result, bad_return};
 use crate::rule::Rule;
-use crate::shape::{CODE_BASE, bad_end, bad_jump, bad_occurrence, follows_call_word};
+use crate::shape::{
+    CODE_BASE, bad_end, bad_jump, bad_occurrence, follows_call_word, is_call_word, is_word,
+    one_where, procedure_numbers,
+};
 use crate::taint::bad_label;
-use code_sweep::{Listing, SweepError, sweep};
+use code_sweep::{Listing, Placed, SweepError, sweep};
 use cv_word::NoMemory;
 use image_form::{Parts, read_image};
 use magic_words::occurrences;
@@ -141,12 +145,30 @@ fn check_code(alloc: Global, parts: &Parts<'_>) -> Result<Counts, VerifyError>
     ensures refused { IfErr result (λ error. IsCodeRefusal (image_of parts.now) error) }
 {
     let listing = listing_of(alloc, parts)?;
-    check_shape(alloc, parts, &listing)?;
-    check_flow(alloc, parts, &listing)?;
-    Ok(Counts {
-        procedures: 1,
-        items: (listing.items.len() - 1) as u32,
-    })
+    let numbers = item_numbers(alloc, &listing)?;
+    let items = listing.items.as_slice();
+    check_shape(alloc, parts, items, &numbers)?;
+    check_flow(alloc, parts, &listing, &numbers)?;
+    Ok(count_items(items))
+}
+
+/// How many procedures and items that are no words there are.
+fn count_items(items: &[Placed]) -> Counts
+    requires { length items.now < 2 ^ 32 }
+    ensures procedures { result.procedures ≡ call_words items.now }
+    ensures items { result.items ≡ plain_items items.now }
+{
+    let mut procedures = 0;
+    let mut plain = 0;
+    for i in 0..items.len() {
+        let p = items[i];
+        procedures += one_where(is_call_word(&p.item));
+        plain += one_where(!is_word(&p.item));
+    }
+    Counts {
+        procedures,
+        items: plain,
+    }
 }
 
 /// V2: the chain of items.
@@ -174,28 +196,34 @@ fn refused(rule: Rule, place: u32) -> VerifyError
 }
 
 /// V3 to V9.
-fn check_shape(alloc: Global, parts: &Parts<'_>, listing: &Listing<'_>) -> Result<(), VerifyError>
+fn check_shape(
+    alloc: Global,
+    parts: &Parts<'_>,
+    items: &[Placed],
+    numbers: &ItemNumbers,
+) -> Result<(), VerifyError>
     requires good { IsGood (image_of parts.now) }
     requires one { length (image_of parts.now).entries ≡ 1 }
-    requires code { listing.now.code.now ≡ (image_of parts.now).code }
-    requires listing { HasListing (image_of parts.now) listing.now.items.items }
-    ensures holds { OnOk result ((rule : Rule) (place : ℕ) → BreaksShape rule (image_of parts.now) listing.now.items.items place → ⊥) }
+    requires listing { HasListing (image_of parts.now) items.now }
+    requires numbers { NumbersItems items.now (number_at numbers.now) }
+    ensures holds { OnOk result ((rule : Rule) (place : ℕ) → BreaksShape rule (image_of parts.now) items.now place → ⊥) }
     ensures refused { IfErr result (λ error. IsCodeRefusal (image_of parts.now) error) }
 {
-    check_ends(parts, listing)?;
-    let numbers = item_numbers(alloc, listing)?;
-    check_prefix(alloc, parts, listing, &numbers)?;
-    check_jumps(parts, listing, &numbers)?;
-    check_entry(parts, listing, &numbers)
+    check_ends(parts, items)?;
+    check_prefix(alloc, parts, items, numbers)?;
+    check_returns(parts, items, numbers)?;
+    check_jumps(alloc, parts, items, numbers)?;
+    check_calls(parts, items, numbers)?;
+    check_results(parts, items)?;
+    check_entry(parts, items, numbers)
 }
 
 /// V3: how procedures begin and end.
-fn check_ends(parts: &Parts<'_>, listing: &Listing<'_>) -> Result<(), VerifyError>
-    requires { HasListing (image_of parts.now) listing.now.items.items }
-    ensures holds { OnOk result (HoldsBelow (image_of parts.now) listing.now.items.items 4) }
+fn check_ends(parts: &Parts<'_>, items: &[Placed]) -> Result<(), VerifyError>
+    requires { HasListing (image_of parts.now) items.now }
+    ensures holds { OnOk result (HoldsBelow (image_of parts.now) items.now 4) }
     ensures refused { IfErr result (λ error. IsCodeRefusal (image_of parts.now) error) }
 {
-    let items = listing.items.as_slice();
     match bad_end(items) {
         Some(i) => Err(refused(Rule::V3, items[i].at)),
         None => Ok(()),
@@ -206,39 +234,91 @@ fn check_ends(parts: &Parts<'_>, listing: &Listing<'_>) -> Result<(), VerifyErro
 fn check_prefix(
     alloc: Global,
     parts: &Parts<'_>,
-    listing: &Listing<'_>,
+    items: &[Placed],
     numbers: &ItemNumbers,
 ) -> Result<(), VerifyError>
     requires good { IsGood (image_of parts.now) }
-    requires listing { HasListing (image_of parts.now) listing.now.items.items }
-    requires numbers { NumbersItems listing.now.items.items (number_at numbers.now) }
-    requires below { HoldsBelow (image_of parts.now) listing.now.items.items 4 }
-    ensures holds { OnOk result (HoldsBelow (image_of parts.now) listing.now.items.items 6) }
+    requires listing { HasListing (image_of parts.now) items.now }
+    requires numbers { NumbersItems items.now (number_at numbers.now) }
+    requires below { HoldsBelow (image_of parts.now) items.now 4 }
+    ensures holds { OnOk result (HoldsBelow (image_of parts.now) items.now 5) }
     ensures refused { IfErr result (λ error. IsCodeRefusal (image_of parts.now) error) }
 {
     let places = occurrences(alloc, parts.code, parts.prefix)?;
-    match bad_occurrence(listing.items.as_slice(), numbers, places.as_slice()) {
+    match bad_occurrence(items, numbers, places.as_slice()) {
         Some(k) => Err(refused(Rule::V4, places[k])),
+        None => Ok(()),
+    }
+}
+
+/// V5: a fitting return word stands behind each call, and nowhere else.
+fn check_returns(
+    parts: &Parts<'_>,
+    items: &[Placed],
+    numbers: &ItemNumbers,
+) -> Result<(), VerifyError>
+    requires good { IsGood (image_of parts.now) }
+    requires listing { HasListing (image_of parts.now) items.now }
+    requires numbers { NumbersItems items.now (number_at numbers.now) }
+    requires below { HoldsBelow (image_of parts.now) items.now 5 }
+    ensures holds { OnOk result (HoldsBelow (image_of parts.now) items.now 6) }
+    ensures refused { IfErr result (λ error. IsCodeRefusal (image_of parts.now) error) }
+{
+    match bad_return(items, numbers) {
+        Some(i) => Err(refused(Rule::V5, items[i].at)),
         None => Ok(()),
     }
 }
 
 /// V6: jumps stay in their procedure.
 fn check_jumps(
+    alloc: Global,
     parts: &Parts<'_>,
-    listing: &Listing<'_>,
+    items: &[Placed],
     numbers: &ItemNumbers,
 ) -> Result<(), VerifyError>
     requires good { IsGood (image_of parts.now) }
-    requires listing { HasListing (image_of parts.now) listing.now.items.items }
-    requires numbers { NumbersItems listing.now.items.items (number_at numbers.now) }
-    requires below { HoldsBelow (image_of parts.now) listing.now.items.items 6 }
-    ensures holds { OnOk result (HoldsBelow (image_of parts.now) listing.now.items.items 9) }
+    requires listing { HasListing (image_of parts.now) items.now }
+    requires numbers { NumbersItems items.now (number_at numbers.now) }
+    requires below { HoldsBelow (image_of parts.now) items.now 6 }
+    ensures holds { OnOk result (HoldsBelow (image_of parts.now) items.now 7) }
     ensures refused { IfErr result (λ error. IsCodeRefusal (image_of parts.now) error) }
 {
-    let items = listing.items.as_slice();
-    match bad_jump(items, numbers) {
+    let procedures = procedure_numbers(alloc, items)?;
+    match bad_jump(items, numbers, procedures.as_slice()) {
         Some(i) => Err(refused(Rule::V6, items[i].at)),
+        None => Ok(()),
+    }
+}
+
+/// V7: a direct call names a procedure or a gate.
+fn check_calls(
+    parts: &Parts<'_>,
+    items: &[Placed],
+    numbers: &ItemNumbers,
+) -> Result<(), VerifyError>
+    requires good { IsGood (image_of parts.now) }
+    requires listing { HasListing (image_of parts.now) items.now }
+    requires numbers { NumbersItems items.now (number_at numbers.now) }
+    requires below { HoldsBelow (image_of parts.now) items.now 7 }
+    ensures holds { OnOk result (HoldsBelow (image_of parts.now) items.now 8) }
+    ensures refused { IfErr result (λ error. IsCodeRefusal (image_of parts.now) error) }
+{
+    match bad_call(items, numbers) {
+        Some(i) => Err(refused(Rule::V7, items[i].at)),
+        None => Ok(()),
+    }
+}
+
+/// V8: a return unit has the bit of its procedure.
+fn check_results(parts: &Parts<'_>, items: &[Placed]) -> Result<(), VerifyError>
+    requires listing { HasListing (image_of parts.now) items.now }
+    requires below { HoldsBelow (image_of parts.now) items.now 8 }
+    ensures holds { OnOk result (HoldsBelow (image_of parts.now) items.now 9) }
+    ensures refused { IfErr result (λ error. IsCodeRefusal (image_of parts.now) error) }
+{
+    match bad_result(items) {
+        Some(i) => Err(refused(Rule::V8, items[i].at)),
         None => Ok(()),
     }
 }
@@ -246,20 +326,20 @@ fn check_jumps(
 /// V9: the entry follows a call word.
 fn check_entry(
     parts: &Parts<'_>,
-    listing: &Listing<'_>,
+    items: &[Placed],
     numbers: &ItemNumbers,
 ) -> Result<(), VerifyError>
     requires good { IsGood (image_of parts.now) }
     requires one { length (image_of parts.now).entries ≡ 1 }
-    requires listing { HasListing (image_of parts.now) listing.now.items.items }
-    requires numbers { NumbersItems listing.now.items.items (number_at numbers.now) }
-    requires below { HoldsBelow (image_of parts.now) listing.now.items.items 9 }
-    ensures holds { OnOk result ((rule : Rule) (place : ℕ) → BreaksShape rule (image_of parts.now) listing.now.items.items place → ⊥) }
+    requires listing { HasListing (image_of parts.now) items.now }
+    requires numbers { NumbersItems items.now (number_at numbers.now) }
+    requires below { HoldsBelow (image_of parts.now) items.now 9 }
+    ensures holds { OnOk result ((rule : Rule) (place : ℕ) → BreaksShape rule (image_of parts.now) items.now place → ⊥) }
     ensures refused { IfErr result (λ error. IsCodeRefusal (image_of parts.now) error) }
 {
     let entries = parts.entries.as_slice();
     let entry = entries[0];
-    if follows_call_word(listing.items.as_slice(), numbers, entry) {
+    if follows_call_word(items, numbers, entry) {
         Ok(())
     } else {
         Err(refused(Rule::V9, entry))
@@ -267,17 +347,23 @@ fn check_entry(
 }
 
 /// V10 to V16: the first item that breaks a rule on labels.
-fn check_flow(alloc: Global, parts: &Parts<'_>, listing: &Listing<'_>) -> Result<(), VerifyError>
+fn check_flow(
+    alloc: Global,
+    parts: &Parts<'_>,
+    listing: &Listing<'_>,
+    numbers: &ItemNumbers,
+) -> Result<(), VerifyError>
     requires good { IsGood (image_of parts.now) }
     requires code { listing.now.code.now ≡ (image_of parts.now).code }
     requires listing { HasListing (image_of parts.now) listing.now.items.items }
+    requires numbers { NumbersItems listing.now.items.items (number_at numbers.now) }
     requires shape { (rule : Rule) (place : ℕ) → BreaksShape rule (image_of parts.now) listing.now.items.items place → ⊥ }
     ensures holds { OnOk result (IsAcceptedImage (image_of parts.now)) }
     ensures refused { IfErr result (λ error. IsCodeRefusal (image_of parts.now) error) }
 {
     let labels = label_code(alloc, listing)?;
     let items = listing.items.as_slice();
-    match bad_label(items, &labels) {
+    match bad_label(items, numbers, &labels) {
         Some((i, rule)) => Err(refused(rule, items[i].at)),
         None => Ok(()),
     }

@@ -83,7 +83,8 @@ spelled_some (Jcc k rel) = omega arith
 spelled_some Ud2 = omega arith
 spelled_some Nop = omega arith
 
-bytes_some : (prefix : List ℕ) (item : Item) → 0 < length (item_bytes prefix item)
+-- every item has bytes
+pub bytes_some : (prefix : List ℕ) (item : Item) → 0 < length (item_bytes prefix item)
 unfolding item_bytes spelling
 bytes_some prefix (Plain i) = spelled_some i
 bytes_some prefix _ = omega arith
