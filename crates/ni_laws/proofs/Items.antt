@@ -1,7 +1,8 @@
 -- What stands at an item of an accepted code, and where it leads.
-use Rattle.std.proofs.Common.{◌≡◌, ◌≢◌, ℕ, zero, suc, ◌+◌, ◌-◌, ◌<◌, ◌≤◌, Bool, true, false, ◌&&◌, not, List, [], ◌∷◌, length, drop, get_or, Option, Some, None, refl, sym, ◌∙◌, ap, subst, arith, ◌⊎◌, inl, inr, slice_get, cond, eqb, take}
-use Rattle.std.specs.Prelude.{count_by, Contains}
-use Rattle.std.proofs.lemmas.Bool.{cases_Bool, cases_eq, false_from_ne_true, and_from, and_parts, true≢false, le-leb, lt-ltb, le-leb, eqb-true, eq-eqb, not-true, not_from_false}
+use Rattle.std.proofs.Common.{◌≡◌, ◌≢◌, ℕ, zero, suc, ◌+◌, ◌-◌, ◌<◌, ◌≤◌, Bool, true, false, ◌&&◌, not, List, [], ◌∷◌, length, drop, get_or, Option, Some, None, refl, sym, ◌∙◌, ap, subst, arith, ◌⊎◌, inl, inr, slice_get, cond, eqb, leb, ◌*◌, ◌/◌, ◌%◌, take}
+use Rattle.std.specs.Option.{option_or}
+use Rattle.std.proofs.lemmas.List.{drop-drop}
+use Rattle.std.proofs.lemmas.Bool.{cond-true, cond-false, ne_eqb, cases_Bool, cases_eq, false_from_ne_true, and_from, and_parts, true≢false, le-leb, lt-ltb, le-leb, eqb-true, leb-true, eq-eqb, not-true, not_from_false}
 use Rattle.std.proofs.lemmas.Option.{slice_get_within, slice_get-get_or}
 use Rattle.cv_word.specs.MemoryMap.{code_base, is_in_code}
 use Rattle.x64_decode.specs.Spelling.{spelling}
@@ -10,19 +11,31 @@ use Rattle.x64_decode.specs.declared.instr.Instr.{Instr}
 use Rattle.code_sweep.specs.declared.item.Item.{Item}
 use Rattle.code_sweep.specs.declared.item.Item.TheVariants.{Call, Ret, Plain, ReturnUnit, CallUnit}
 use Rattle.code_sweep.specs.declared.item.Placed.{Placed}
-use Rattle.code_sweep.specs.Listing.{item_bytes, IsChain, StandsAt, StandsAlone, IsAdmitted}
+use Rattle.code_sweep.specs.Listing.{item_bytes, IsChain, StandsAt, StandsAlone}
 use Rattle.taint_flow.specs.Label.{Label, left_by}
 use Rattle.taint_flow.specs.Flow.{address, address_after, Labelling, MeetsFlow, jump_target, instruction_falls, instruction_target}
 use Rattle.conf_verify.specs.declared.rule.Rule.{Rule}
-use Rattle.conf_verify.specs.declared.rule.Rule.TheVariants.{V10, V11, V12, V13}
-use Rattle.conf_verify.specs.Rules.{is_word, is_call_word, may_end, IsLast, BreaksEnds, BreaksJumps, BreaksUnder, IsGoodTarget, procedure_of, item_breaks, breaks_label}
+use Rattle.conf_verify.specs.declared.rule.Rule.TheVariants.{V10, V11, V12, V13, V14}
+use Rattle.conf_verify.specs.Rules.{is_word, is_call_word, may_end, IsLast, BreaksEnds, BreaksPrefix, BreaksReturns, BreaksJumps, BreaksCalls, BreaksUnder, FollowsCall, IsGoodTarget, procedure_of, item_breaks}
+use Rattle.cv_word.specs.Words.{AreBytes}
+use Rattle.cv_word.specs.Gates.{gate_bits, gate_bits_at, gate_address}
+use Rattle.magic_words.specs.MagicWords.{call_word, return_word, IsOccurrence}
+use Rattle.taint_flow.specs.Calls.{call_bits, procedure_at, call_target, bits_at, callee, is_call}
+use Rattle.taint_flow.proofs.Callees.{bits_are}
 use Rattle.ni_laws.proofs.Rows.{KeepsRules, Lands}
 
--- what acceptance says of a listing
+-- what acceptance says of a code, its listing and labels
 pub record Facts (prefix code : List ℕ) (items : List Placed) (labels : Labelling) : Type 0 where
+  pub six : length prefix ≡ 6
+  pub prefix_bytes : AreBytes prefix
+  pub code_bytes : AreBytes code
+  pub limit : length code ≤ 4194304
   pub listing : IsChain prefix code items 0 (length code)
   pub ends : (place : ℕ) → BreaksEnds items place → ⊥
+  pub occurs : (place : ℕ) → BreaksPrefix prefix code items place → ⊥
+  pub returns : (place : ℕ) → BreaksReturns items place → ⊥
   pub jumps : (place : ℕ) → BreaksJumps items place → ⊥
+  pub calls : (place : ℕ) → BreaksCalls items place → ⊥
   pub meets : MeetsFlow items labels
   pub flow : (rule : Rule) (place : ℕ) → BreaksUnder rule items labels place → ⊥
 
@@ -58,21 +71,36 @@ chain_next prefix code (a ∷ rest) from to (suc i) p q chain e f = chain_next p
 pub item_behind : (items : List Placed) (i : ℕ) (p : Placed) → slice_get items i ≡ Some p → suc i ≢ length items → (q : Placed) × (slice_get items (suc i) ≡ Some q)
 item_behind items i p e inside = (get_or items (suc i) p, slice_get-get_or items (suc i) p (let h = slice_get_within items i p e in omega arith))
 
--- an item that is admitted and no word is an instruction
-pub plain_of : (place : ℕ) (item : Item) → is_word item ≡ false → IsAdmitted place item → (i : Instr) × (item ≡ Plain i) × StandsAlone i
-plain_of place (Call bits) e admitted = absurd (true≢false e)
-plain_of place (Ret bit) e admitted = absurd (true≢false e)
-plain_of place (Plain i) e admitted = (i, refl, admitted)
-plain_of place (ReturnUnit bit) e admitted = absurd admitted
-plain_of place (CallUnit r bits) e admitted = absurd admitted
+-- the item behind one that may not end its procedure and is no call: it stands right behind and is no word
+pub record Next (items : List Placed) (i : ℕ) (p : Placed) : Type 0 where
+  pub q : Placed
+  pub stands : slice_get items (suc i) ≡ Some q
+  pub no_word : is_word q.item ≡ false
+  pub here : address q ≡ address_after p
 
--- what stands behind a word or an instruction is no word, unless it is a call word
-pub no_word_of : (place : ℕ) (item : Item) → is_call_word item ≡ false → IsAdmitted place item → is_word item ≡ false
-no_word_of place (Call bits) e admitted = absurd (true≢false e)
-no_word_of place (Ret bit) e admitted = absurd admitted
-no_word_of place (Plain i) e admitted = refl
-no_word_of place (ReturnUnit bit) e admitted = refl
-no_word_of place (CallUnit r bits) e admitted = refl
+no_word_of : (item : Item) → is_call_word item ≡ false → ((bit : ℕ) → item ≡ Ret bit → ⊥) → is_word item ≡ false
+no_word_of (Call bits) e none = absurd (true≢false e)
+no_word_of (Ret bit) e none = absurd (none bit refl)
+no_word_of (Plain i) e none = refl
+no_word_of (ReturnUnit bit) e none = refl
+no_word_of (CallUnit r bits) e none = refl
+
+before_suc : (items : List Placed) (i h : ℕ) (p q : Placed) → slice_get items i ≡ Some p → slice_get items h ≡ Some q → suc i ≡ suc h → p ≡ q
+before_suc items i h p q e f same = let at : i ≡ h = omega arith in some_same p q (sym e ∙ ap (λ k. slice_get items k) at ∙ f)
+
+pub next_item : (prefix code : List ℕ) (items : List Placed) (labels : Labelling) → Facts prefix code items labels → (i : ℕ) (p : Placed) → slice_get items i ≡ Some p →
+    may_end p.item ≡ false → is_call p.item ≡ false → Next items i p
+next_item prefix code items labels facts i p stands not_end no_call =
+    let not_last : IsLast items i → ⊥ = λ last. facts.ends p.at (i, p, stands, refl, inr (last, not_end)) in
+    let behind = item_behind items i p stands (λ end. not_last (inl end)) in
+    let q : Placed = behind.0 in
+    let stands' : slice_get items (suc i) ≡ Some q = behind.1 in
+    let no_call_word : is_call_word q.item ≡ false = false_from_ne_true (is_call_word q.item) (λ h. not_last (inr (q, stands', h))) in
+    let follows : FollowsCall items (suc i) → ⊥ = λ f.
+    true≢false (sym (ap (λ (x : Placed). is_call x.item) (before_suc items i f.0 p f.1 stands f.3 f.2) ∙ f.4) ∙ no_call) in
+    let no_return : (bit : ℕ) → q.item ≡ Ret bit → ⊥ = λ bit is. facts.returns q.at (suc i, q, stands', refl, inr (bit, is, follows)) in
+    let next : q.at ≡ p.at + p.len = chain_next prefix code items 0 (length code) i p q facts.listing stands stands' in
+    record { q = q; stands = stands'; no_word = no_word_of q.item no_call_word no_return; here = omega arith }
 
 -- an item that passes a test, or none does
 pub data Found (items : List Placed) (test : ℕ → Placed → Bool) : Type 0 where
@@ -112,17 +140,177 @@ good_target items i target h =
           ∙ none g.0 g.1 g.2)))
     ]
 
--- the test of a rule came out false at an instruction
-kept : (items : List Placed) (labels : Labelling) (i : ℕ) (p : Placed) (ins : Instr) (rule : Rule) → slice_get items i ≡ Some p → p.item ≡ Plain ins →
-    ((rule : Rule) (place : ℕ) → BreaksUnder rule items labels place → ⊥) → breaks_label rule ins (labels i) ≡ false
-kept items labels i p ins rule stands is flow =
-    false_from_ne_true (breaks_label rule ins (labels i)) (λ h. flow rule p.at (i, p, stands, refl, ap (λ item. item_breaks rule item (labels i)) is ∙ h))
+-- the test of a rule comes out false at an item
+pub kept : (items : List Placed) (labels : Labelling) (i : ℕ) (p : Placed) (rule : Rule) → slice_get items i ≡ Some p →
+    ((rule : Rule) (place : ℕ) → BreaksUnder rule items labels place → ⊥) → item_breaks rule (callee items p) p.item (labels i) ≡ false
+kept items labels i p rule stands flow =
+    false_from_ne_true (item_breaks rule (callee items p) p.item (labels i)) (λ h. flow rule p.at (i, p, stands, refl, h))
+
+kept_plain : (items : List Placed) (labels : Labelling) (i : ℕ) (p : Placed) (ins : Instr) (rule : Rule) → slice_get items i ≡ Some p → p.item ≡ Plain ins →
+    ((rule : Rule) (place : ℕ) → BreaksUnder rule items labels place → ⊥) → item_breaks rule (callee items p) (Plain ins) (labels i) ≡ false
+kept_plain items labels i p ins rule stands is flow =
+    ap (λ item. item_breaks rule (callee items p) item (labels i)) (sym is) ∙ kept items labels i p rule stands flow
 
 pub keeps_rules : (items : List Placed) (labels : Labelling) (i : ℕ) (p : Placed) (ins : Instr) → slice_get items i ≡ Some p → p.item ≡ Plain ins →
     ((rule : Rule) (place : ℕ) → BreaksUnder rule items labels place → ⊥) → KeepsRules ins (labels i)
 keeps_rules items labels i p ins stands is flow = record {
-  address = kept items labels i p ins V10 stands is flow;
-  stores = kept items labels i p ins V11 stands is flow;
-  branches = kept items labels i p ins V12 stands is flow;
-  divides = kept items labels i p ins V13 stands is flow;
+  address = kept_plain items labels i p ins V10 stands is flow;
+  stores = kept_plain items labels i p ins V11 stands is flow;
+  branches = kept_plain items labels i p ins V12 stands is flow;
+  divides = kept_plain items labels i p ins V13 stands is flow;
+  stack = kept_plain items labels i p ins V14 stands is flow;
 }
+
+-- ---- words that stand in the code are items
+
+-- a word in the code holds the prefix behind its first two bytes
+second_tail : (a b c d : ℕ) (xs ys : List ℕ) → a ∷ (c ∷ xs) ≡ b ∷ (d ∷ ys) → xs ≡ ys
+second_tail a b c d xs ys e = cc
+
+prefix_in : (xs : List ℕ) (b k : ℕ) (prefix : List ℕ) → length prefix ≡ 6 → take 8 xs ≡ b ∷ (k ∷ prefix) → take (length prefix) (drop 2 xs) ≡ prefix
+prefix_in (x ∷ (y ∷ rest)) b k prefix six e =
+    let f : take 6 rest ≡ prefix = second_tail x b y k (take 6 rest) prefix e in
+    ap (λ n. take n rest) six ∙ f
+prefix_in [] b k prefix six e = absurd (let h : length (let l : List ℕ = [] in l) ≡ suc (suc (length prefix)) = ap length e in omega arith)
+prefix_in (x ∷ []) b k prefix six e = absurd (let h : length (x ∷ []) ≡ suc (suc (length prefix)) = ap length e in omega arith)
+
+abbrev is_word_at : ℕ → ℕ → Placed → Bool
+is_word_at place j q = is_word q.item && eqb (q.at + 2) place
+
+-- the item whose prefix it is
+word_item : (prefix code : List ℕ) (items : List Placed) (place : ℕ) → ((place : ℕ) → BreaksPrefix prefix code items place → ⊥) → IsOccurrence prefix code place →
+    (j : ℕ) × (q : Placed) × (slice_get items j ≡ Some q) × (is_word q.item ≡ true) × (q.at + 2 ≡ place)
+word_item prefix code items place fine occurs =
+    elim (search_items items (is_word_at place)) [
+      | found j q e passes ↦ let a = and_parts (is_word q.item) (eqb (q.at + 2) place) passes in (j, q, e, a.0, eqb-true (q.at + 2) place a.1)
+      | nowhere none ↦ absurd (fine place (occurs, λ i p e word at.
+          true≢false (sym (and_from (is_word p.item) (eqb (p.at + 2) place) word (eq-eqb (p.at + 2) place at)) ∙ none i p e)))
+    ]
+
+first_cell : (a b c d : ℕ) (xs ys : List ℕ) → a ∷ (b ∷ xs) ≡ c ∷ (d ∷ ys) → a ≡ c
+first_cell a b c d xs ys e = cc
+
+second_cell : (a b c d : ℕ) (xs ys : List ℕ) → a ∷ (b ∷ xs) ≡ c ∷ (d ∷ ys) → b ≡ d
+second_cell a b c d xs ys e = cc
+
+kinds_differ : (a b : ℕ) → a ≡ 0x11 → b ≡ 0x22 → a ≡ b → ⊥
+kinds_differ a b e f same = omega arith
+
+-- what stands at a word item is its word
+item_word : (prefix code : List ℕ) (place : ℕ) (b : ℕ) (item : Item) → length prefix ≡ 6 → is_word item ≡ true → StandsAt prefix code place item →
+    ((bits : ℕ) × (item ≡ Call bits) × (take 8 (drop place code) ≡ bits ∷ (0x11 ∷ prefix)))
+    ⊎ ((bit : ℕ) × (item ≡ Ret bit) × (bit < 2) × (take 8 (drop place code) ≡ bit ∷ (0x22 ∷ prefix)))
+unfolding item_bytes
+item_word prefix code place b (Call bits) six e s =
+    inl (bits, refl, ap (λ n. take n (drop place code)) (let n : 8 ≡ suc (suc (length prefix)) = omega arith in n) ∙ s.is.1)
+item_word prefix code place b (Ret bit) six e s =
+    inr (bit, refl, s.is.0, ap (λ n. take n (drop place code)) (let n : 8 ≡ suc (suc (length prefix)) = omega arith in n) ∙ s.is.1)
+item_word prefix code place b (Plain i) six e s = absurd (true≢false (sym e))
+item_word prefix code place b (ReturnUnit bit) six e s = absurd (true≢false (sym e))
+item_word prefix code place b (CallUnit r bits) six e s = absurd (true≢false (sym e))
+
+-- the word item at a place where a word's bytes stand
+word_at : (prefix code : List ℕ) (items : List Placed) (labels : Labelling) → Facts prefix code items labels → (place b k : ℕ) → take 8 (drop place code) ≡ b ∷ (k ∷ prefix) →
+    (j : ℕ) × (q : Placed) × (slice_get items j ≡ Some q) × (is_word q.item ≡ true) × (q.at ≡ place)
+word_at prefix code items labels facts place b k stands =
+    let e : take (length prefix) (drop (place + 2) code) ≡ prefix =
+    ap (λ l. take (length prefix) l) (sym (drop-drop 2 place code)) ∙ prefix_in (drop place code) b k prefix facts.six stands in
+    let f = word_item prefix code items (place + 2) facts.occurs e in
+    (f.0, f.1, f.2, f.3, let at = f.4 in omega arith)
+
+pub record IsWordItem (items : List Placed) (item : Item) (place : ℕ) : Type 0 where
+  pub j : ℕ
+  pub q : Placed
+  pub stands : slice_get items j ≡ Some q
+  pub is : q.item ≡ item
+  pub at : q.at ≡ place
+
+pub call_at : (prefix code : List ℕ) (items : List Placed) (labels : Labelling) → Facts prefix code items labels → (place bits : ℕ) → take 8 (drop place code) ≡ call_word bits prefix →
+    IsWordItem items (Call bits) place
+call_at prefix code items labels facts place bits stands =
+    let w = word_at prefix code items labels facts place bits 0x11 stands in
+    let s = chain_item prefix code items 0 (length code) w.0 w.1 facts.listing w.2 in
+    let same : take 8 (drop w.1.at code) ≡ bits ∷ (0x11 ∷ prefix) = ap (λ n. take 8 (drop n code)) w.4 ∙ stands in
+    elim (item_word prefix code w.1.at bits w.1.item facts.six w.3 s.0) [
+      | inl c ↦ record { j = w.0; q = w.1; stands = w.2; is = c.1 ∙ ap Call (first_cell c.0 0x11 bits 0x11 prefix prefix (sym c.2 ∙ same)); at = w.4 }
+      | inr r ↦ absurd (kinds_differ 0x11 0x22 refl refl (second_cell bits 0x11 r.0 0x22 prefix prefix (sym same ∙ r.3)))
+    ]
+
+pub return_at : (prefix code : List ℕ) (items : List Placed) (labels : Labelling) → Facts prefix code items labels → (place bit : ℕ) → take 8 (drop place code) ≡ return_word bit prefix →
+    IsWordItem items (Ret bit) place
+return_at prefix code items labels facts place bit stands =
+    let w = word_at prefix code items labels facts place bit 0x22 stands in
+    let s = chain_item prefix code items 0 (length code) w.0 w.1 facts.listing w.2 in
+    let same : take 8 (drop w.1.at code) ≡ bit ∷ (0x22 ∷ prefix) = ap (λ n. take 8 (drop n code)) w.4 ∙ stands in
+    elim (item_word prefix code w.1.at bit w.1.item facts.six w.3 s.0) [
+      | inl c ↦ absurd (kinds_differ 0x11 0x22 refl refl (second_cell c.0 0x11 bit 0x22 prefix prefix (sym c.2 ∙ same)))
+      | inr r ↦ record { j = w.0; q = w.1; stands = w.2; is = r.1 ∙ ap Ret (first_cell r.0 0x22 bit 0x22 prefix prefix (sym r.3 ∙ same)); at = w.4 }
+    ]
+
+-- a word has eight bytes
+eight_of : (prefix : List ℕ) (item : Item) → length prefix ≡ 6 → is_word item ≡ true → length (item_bytes prefix item) ≡ 8
+unfolding item_bytes
+eight_of prefix (Call bits) six e = omega arith
+eight_of prefix (Ret bit) six e = omega arith
+eight_of prefix (Plain i) six e = absurd (true≢false (sym e))
+eight_of prefix (ReturnUnit bit) six e = absurd (true≢false (sym e))
+eight_of prefix (CallUnit r bits) six e = absurd (true≢false (sym e))
+
+pub word_length : (prefix code : List ℕ) (items : List Placed) (labels : Labelling) → Facts prefix code items labels → (j : ℕ) (q : Placed) → slice_get items j ≡ Some q → is_word q.item ≡ true → q.len ≡ 8
+word_length prefix code items labels facts j q e word =
+    (chain_item prefix code items 0 (length code) j q facts.listing e).1 ∙ eight_of prefix q.item facts.six word
+
+-- ---- what a direct call names
+
+procedure_first : (x : Placed) (xs : List Placed) (target bits : ℕ) → (address_after x ≡ target) ⊎ (address_after x ≡ target → ⊥) →
+    (procedure_at xs target ≡ Some bits → (j : ℕ) × (q : Placed) × (slice_get xs j ≡ Some q) × (q.item ≡ Call bits) × (address_after q ≡ target)) →
+    procedure_at (x ∷ xs) target ≡ Some bits →
+    (j : ℕ) × (q : Placed) × (slice_get (x ∷ xs) j ≡ Some q) × (q.item ≡ Call bits) × (address_after q ≡ target)
+procedure_first x xs target bits (inl here) rest e =
+    (0, x, refl, bits_are x.item bits (sym (cond-true (eqb (address_after x) target) _ _ (eq-eqb _ _ here)) ∙ e), here)
+procedure_first x xs target bits (inr there) rest e =
+    let f = rest (sym (cond-false (eqb (address_after x) target) _ _ (ne_eqb _ _ there)) ∙ e) in
+    (suc f.0, f.1, f.2, f.3, f.4)
+
+procedure_found : (items : List Placed) (target bits : ℕ) → procedure_at items target ≡ Some bits →
+    (j : ℕ) × (q : Placed) × (slice_get items j ≡ Some q) × (q.item ≡ Call bits) × (address_after q ≡ target)
+procedure_found [] target bits e = absurd (none_some bits e)
+procedure_found (x ∷ xs) target bits e = procedure_first x xs target bits (cases_eq (address_after x) target) (procedure_found xs target bits) e
+
+-- the gate at an address
+gate_from : (test : Bool) (target bits : ℕ) → leb 0x1000 target && eqb ((target - 0x1000) % 16) 0 ≡ test → cond test (gate_bits ((target - 0x1000) / 16)) None ≡ Some bits →
+    (number : ℕ) × (gate_bits number ≡ Some bits) × (target ≡ gate_address number)
+gate_from false target bits is e = absurd (none_some bits e)
+gate_from true target bits is e =
+    let a = and_parts (leb 0x1000 target) (eqb ((target - 0x1000) % 16) 0) is in
+    let low : 0x1000 ≤ target = leb-true _ _ a.0 in
+    let whole : (target - 0x1000) % 16 ≡ 0 = eqb-true _ _ a.1 in
+    ((target - 0x1000) / 16, e, omega arith)
+
+gate_found : (target bits : ℕ) → gate_bits_at target ≡ Some bits → (number : ℕ) × (gate_bits number ≡ Some bits) × (target ≡ gate_address number)
+gate_found target bits e = gate_from (leb 0x1000 target && eqb ((target - 0x1000) % 16) 0) target bits refl e
+
+-- what a direct call goes to: the item behind a call word, or a gate
+pub data Callee (items : List Placed) (bits target : ℕ) : Type 0 where
+  procedure : (j : ℕ) (q : Placed) → slice_get items j ≡ Some q → q.item ≡ Call bits → address_after q ≡ target → Callee items bits target
+  gate : (number : ℕ) → gate_bits number ≡ Some bits → target ≡ gate_address number → Callee items bits target
+
+callee_at : (items : List Placed) (o : Option ℕ) (bits target : ℕ) → procedure_at items target ≡ o → option_or o (gate_bits_at target) ≡ Some bits → Callee items bits target
+callee_at items None bits target is e = let g = gate_found target bits e in gate g.0 g.1 g.2
+callee_at items (Some found_bits) bits target is e =
+    let f = procedure_found items target found_bits is in
+    procedure f.0 f.1 f.2 (f.3 ∙ ap Call (some_same found_bits bits e)) f.4
+
+some_or_none : (o : Option ℕ) → ((bits : ℕ) × (o ≡ Some bits)) ⊎ (o ≡ None)
+some_or_none None = inr refl
+some_or_none (Some bits) = inl (bits, refl)
+
+-- a direct call has a callee
+pub called : (items : List Placed) (i target : ℕ) (p : Placed) → ((place : ℕ) → BreaksCalls items place → ⊥) → slice_get items i ≡ Some p → call_target p ≡ Some target →
+    callee items p ≡ bits_at items (call_target p) →
+    (bits : ℕ) × (callee items p ≡ Some bits) × Callee items bits target
+called items i target p fine stands names through =
+    elim (some_or_none (callee items p)) [
+      | inl b ↦ (b.0, b.1, callee_at items (procedure_at items target) b.0 target refl (sym (through ∙ ap (λ o. bits_at items o) names) ∙ b.1))
+      | inr none ↦ absurd (fine p.at (i, p, target, stands, refl, names, none))
+    ]

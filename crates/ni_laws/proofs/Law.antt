@@ -1,5 +1,5 @@
 -- Accepted bytes are noninterfering.
-use Rattle.std.proofs.Common.{◌≡◌, ◌≢◌, ℕ, zero, suc, ◌+◌, ◌-◌, ◌*◌, ◌<◌, ◌≤◌, Bool, true, false, ◌&&◌, not, List, [], ◌∷◌, length, Option, Some, None, refl, sym, ◌∙◌, ap, subst, arith, ◌⊎◌, inl, inr, slice_get, cond, eqb, get_or}
+use Rattle.std.proofs.Common.{◌≡◌, ◌≢◌, ℕ, zero, suc, ◌+◌, ◌-◌, ◌*◌, ◌<◌, ◌≤◌, Bool, true, false, ◌&&◌, not, List, [], ◌∷◌, ◌++◌, length, Option, Some, None, refl, sym, ◌∙◌, ap, subst, arith, ◌⊎◌, inl, inr, slice_get, cond, eqb, get_or}
 use Rattle.std.specs.Prelude.{Contains, replicate}
 use Rattle.std.proofs.lemmas.Bool.{false_from_ne_true, and_from, and_parts, true≢false, eq-eqb, eqb-true}
 use Rattle.std.proofs.lemmas.List.{length-set}
@@ -10,10 +10,13 @@ use Rattle.x64_decode.specs.declared.instr.Reg.TheVariants.{Rsp}
 use Rattle.code_sweep.specs.declared.item.Item.{Item}
 use Rattle.code_sweep.specs.declared.item.Item.TheVariants.{Call, Ret, Plain, ReturnUnit, CallUnit}
 use Rattle.code_sweep.specs.declared.item.Placed.{Placed}
-use Rattle.taint_flow.specs.Label.{Label}
-use Rattle.taint_flow.specs.Flow.{address, Labelling}
-use Rattle.image_form.specs.Image.{Image}
-use Rattle.conf_verify.specs.declared.rule.Rule.TheVariants.{V3, V6, V9}
+use Rattle.taint_flow.specs.Label.{Label, entry_label}
+use Rattle.taint_flow.specs.Flow.{address, address_after, Labelling, said_behind}
+use Rattle.image_form.specs.Image.{Image, IsGood, signature, word, spelling}
+use Rattle.std.specs.List.{concat, flat_map}
+use Rattle.std.proofs.lemmas.Option.{same_Some, none-some}
+use Rattle.cv_word.specs.Words.{AreBytes}
+use Rattle.conf_verify.specs.declared.rule.Rule.TheVariants.{V3, V4, V5, V6, V7, V9}
 use Rattle.conf_verify.specs.Rules.{is_word, is_call_word, may_end, IsLast, FollowsCallWord, BreaksEntries}
 use Rattle.conf_verify.specs.Verdict.{IsImage, IsAcceptedImage, IsAccepted}
 use Rattle.x64_machine.specs.declared.outcome.Outcome.TheVariants.{Running}
@@ -22,17 +25,11 @@ use Rattle.x64_machine.specs.Start.{Shared, Secret, start_registers, start_cores
 use Rattle.x64_alu.specs.Memory.{padded}
 use Rattle.cv_word.specs.MemoryMap.{first_mapped}
 use Rattle.x64_machine.specs.Noninterference.{Noninterfering}
-use Rattle.ni_laws.specs.Agreement.{HasSixteen, EqualUnder, AtItem, CoreAlike, CoresAlike}
-use Rattle.ni_laws.proofs.Items.{Facts, chain_item, chain_next, item_behind, no_word_of, Found, found, nowhere, search_items}
-use Rattle.ni_laws.proofs.Runs.{ConfigsAlike, alike, run_alike, same_view}
-
--- a call word may not end a procedure
-call_goes_on : (item : Item) → is_call_word item ≡ true → may_end item ≡ false
-call_goes_on (Call bits) e = refl
-call_goes_on (Ret bit) e = absurd (true≢false (sym e))
-call_goes_on (Plain i) e = absurd (true≢false (sym e))
-call_goes_on (ReturnUnit bit) e = absurd (true≢false (sym e))
-call_goes_on (CallUnit r bits) e = absurd (true≢false (sym e))
+use Rattle.ni_laws.specs.Agreement.{HasSixteen, EqualUnder, Equal, AtItem, at_item, CoreAlike, CoresAlike, Agree, agree}
+use Rattle.ni_laws.proofs.Items.{Facts, Found, found, nowhere, search_items}
+use Rattle.ni_laws.proofs.Bytes.{left_bytes, right_bytes, append_bytes, zeros_are}
+use Rattle.ni_laws.proofs.Steps.{landed_word}
+use Rattle.ni_laws.proofs.Runs.{run_alike, same_view}
 
 -- an entry that breaks no rule follows a call word
 abbrev ends_before : ℕ → ℕ → Placed → Bool
@@ -46,58 +43,106 @@ follows items place h =
     ]
 
 -- registers are equal to themselves
-equal_self : (l : Label) (s : Registers) → HasSixteen s → EqualUnder l s s
-equal_self l s sixteen = record { mine = sixteen; yours = sixteen; registers = λ r h. refl; flags = λ h. refl; counters = refl }
+equal_self : (l : Label) (s : Registers) → HasSixteen s → Equal l s s
+equal_self l s sixteen = record {
+  under = record { mine = sixteen; yours = sixteen; registers = λ r h. refl; flags = λ h. refl; counters = refl };
+  stack = refl;
+}
 
 start_sixteen : (image : Image) (k entry : ℕ) → HasSixteen (start_registers image k entry)
 start_sixteen image k entry = length-set (replicate 16 0) (number Rsp) (public_base + (image.seg_size - k * image.stack_size))
+
+call_word_said : (item : Item) → is_call_word item ≡ true → (is_word item ≡ true) × ((l : Label) × (said_behind item ≡ Some l))
+call_word_said (Call bits) e = (refl, (entry_label bits, refl))
+call_word_said (Ret bit) e = absurd (true≢false (sym e))
+call_word_said (Plain i) e = absurd (true≢false (sym e))
+call_word_said (ReturnUnit bit) e = absurd (true≢false (sym e))
+call_word_said (CallUnit r bits) e = absurd (true≢false (sym e))
+
+behind_is : (p : Placed) → code_base + (p.at + p.len) ≡ address_after p
+behind_is p = omega arith
 
 -- a core starts at an item
 starts_at : (image : Image) (items : List Placed) (labels : Labelling) → Facts image.prefix image.code items labels → (k entry : ℕ) → FollowsCallWord items entry →
     AtItem items labels (start_registers image k entry) (start_registers image k entry)
 starts_at image items labels facts k entry f =
-    let not_last : IsLast items f.0 → ⊥ = λ last. facts.ends f.1.at (f.0, f.1, f.2, refl, inr (last, call_goes_on f.1.item f.3)) in
-    let behind = item_behind items f.0 f.1 f.2 (λ end. not_last (inl end)) in
-    let q : Placed = behind.0 in
-    let stands : slice_get items (suc f.0) ≡ Some q = behind.1 in
-    let no_call : is_call_word q.item ≡ false = false_from_ne_true (is_call_word q.item) (λ h. not_last (inr (q, stands, h))) in
-    let at_q = chain_item image.prefix image.code items 0 (length image.code) (suc f.0) q facts.listing stands in
-    let next : q.at ≡ f.1.at + f.1.len = chain_next image.prefix image.code items 0 (length image.code) f.0 f.1 q facts.listing f.2 stands in
-    record {
-      i = suc f.0;
-      p = q;
-      stands = stands;
-      no_word = no_word_of q.at q.item no_call at_q.0.admitted;
-      here = ap (λ n. code_base + n) (sym f.4 ∙ sym next);
-      equal = equal_self _ _ (start_sixteen image k entry);
-    }
+    let w = call_word_said f.1.item f.3 in
+    landed_word image.prefix image.code items labels facts f.0 f.1 w.1.0 _ _ f.2 w.0 w.1.1 (ap (λ n. code_base + n) (sym f.4) ∙ behind_is f.1)
+    (equal_self w.1.0 (start_registers image k entry) (start_sixteen image k entry))
 
 start_cores_alike : (image : Image) (items : List Placed) (labels : Labelling) → Facts image.prefix image.code items labels → (k : ℕ) (entries : List ℕ) →
-    ((n : ℕ) (entry : ℕ) → slice_get entries n ≡ Some entry → FollowsCallWord items entry) → CoresAlike items labels (start_cores image k entries) (start_cores image k entries)
+    ((n : ℕ) (entry : ℕ) → slice_get entries n ≡ Some entry → FollowsCallWord items entry) →
+    CoresAlike image.prefix image.code items labels (start_cores image k entries) (start_cores image k entries)
 start_cores_alike image items labels facts k [] f = tt
 start_cores_alike image items labels facts k (entry ∷ entries) f = (
-  record { ended = refl; counters = refl; item = λ h. starts_at image items labels facts k entry (f 0 entry refl) },
+  record { ended = refl; counters = refl; standing = λ h. at_item (starts_at image items labels facts k entry (f 0 entry refl)) },
   start_cores_alike image items labels facts (suc k) entries (λ n e h. f (suc n) e h),
 )
 
-facts_of : (image : Image) (accepted : IsAcceptedImage image) → Facts image.prefix image.code accepted.items accepted.labels
-facts_of image accepted = record {
+-- ---- the facts of an accepted image
+
+-- the parts of an image that hold bytes
+pub record HasBytes (image : Image) : Type 0 where
+  pub prefix : AreBytes image.prefix
+  pub code : AreBytes image.code
+  pub public : AreBytes image.public
+
+concat_bytes : (xs : List (List ℕ)) → AreBytes (concat xs) → (i : ℕ) (x : List ℕ) → slice_get xs i ≡ Some x → AreBytes x
+concat_bytes [] are i x e = absurd (none-some x e)
+concat_bytes (y ∷ ys) are zero x e = subst (λ (z : List ℕ). AreBytes z) (same_Some y x e) (left_bytes y (concat ys) are)
+concat_bytes (y ∷ ys) are (suc i) x e = concat_bytes ys (right_bytes y (concat ys) are) i x e
+
+-- the parts of an image's bytes
+abbrev fields : Image → List (List ℕ)
+fields image =
+    signature ∷ (1 ∷ []) ∷ (length image.entries ∷ []) ∷ (0 ∷ 0 ∷ []) ∷ image.prefix ∷ (0 ∷ 0 ∷ []) ∷ word image.seg_size ∷ word image.stack_size
+    ∷ word (length image.code) ∷ word (length image.public) ∷ word (length image.private) ∷ (0 ∷ 0 ∷ 0 ∷ 0 ∷ []) ∷ flat_map word image.entries
+    ∷ image.code ∷ image.public ∷ image.private ∷ []
+
+spelled_bytes : (image : Image) → AreBytes (spelling image) → HasBytes image
+unfolding spelling
+spelled_bytes image are = record {
+  prefix = concat_bytes (fields image) are 4 image.prefix refl;
+  code = concat_bytes (fields image) are 13 image.code refl;
+  public = concat_bytes (fields image) are 14 image.public refl;
+}
+
+pub image_bytes : (bytes : List ℕ) (image : Image) → AreBytes bytes → IsImage bytes image → HasBytes image
+image_bytes bytes image are is = spelled_bytes image (subst (λ (l : List ℕ). AreBytes l) is.spelled are)
+
+pub facts_of : (image : Image) (accepted : IsAcceptedImage image) → IsGood image → AreBytes image.prefix → AreBytes image.code → Facts image.prefix image.code accepted.items accepted.labels
+facts_of image accepted good prefix code = record {
+  six = good.prefix_len;
+  prefix_bytes = prefix;
+  code_bytes = code;
+  limit = (let len = good.code in len.1);
   listing = accepted.listing;
   ends = λ place. accepted.shape V3 place;
+  occurs = λ place. accepted.shape V4 place;
+  returns = λ place. accepted.shape V5 place;
   jumps = λ place. accepted.shape V6 place;
+  calls = λ place. accepted.shape V7 place;
   meets = accepted.meets;
   flow = accepted.flow;
 }
 
--- two runs of an accepted image, with any secrets, show the same
-pub law_of_image : (image : Image) → IsAcceptedImage image → (shared : Shared) (mine yours : Secret) (schedule : List ℕ) →
+-- ---- two runs of an accepted image, with any secrets, show the same
+
+padded_bytes : (before size : ℕ) (bytes : List ℕ) → AreBytes bytes → AreBytes (padded before size bytes)
+unfolding padded
+padded_bytes before size bytes are =
+    append_bytes (replicate before 0 ++ bytes) (replicate (size - (before + length bytes)) 0)
+    (append_bytes (replicate before 0) bytes (zeros_are before) are) (zeros_are (size - (before + length bytes)))
+
+pub law_of_image : (image : Image) → IsAcceptedImage image → IsGood image → HasBytes image → (shared : Shared) (mine yours : Secret) (schedule : List ℕ) →
     view (run schedule (start image shared mine)) ≡ view (run schedule (start image shared yours))
-law_of_image image accepted shared mine yours schedule =
-    let facts = facts_of image accepted in
+law_of_image image accepted good has shared mine yours schedule =
+    let facts = facts_of image accepted good has.prefix has.code in
     let entry_follows : (n entry : ℕ) → slice_get image.entries n ≡ Some entry → FollowsCallWord accepted.items entry =
     λ n entry h. follows accepted.items entry (λ none. accepted.shape V9 entry (n, entry, h, refl, none)) in
     let cores = start_cores_alike image accepted.items accepted.labels facts 0 image.entries entry_follows in
-    same_view accepted.items accepted.labels image.seg_size image.code _ _
+    same_view image.prefix image.code accepted.items accepted.labels image.seg_size _ _
     (run_alike image.prefix image.code accepted.items accepted.labels facts image.seg_size schedule _ _
-    (alike (start_cores image 0 image.entries) (start_cores image 0 image.entries) (padded first_mapped image.seg_size image.public)
-    (padded first_mapped image.seg_size mine.segment) (padded first_mapped image.seg_size yours.segment) Running cores))
+    (agree (start_cores image 0 image.entries) (start_cores image 0 image.entries) (padded first_mapped image.seg_size image.public)
+    (padded first_mapped image.seg_size mine.segment) (padded first_mapped image.seg_size yours.segment) Running cores
+    (padded_bytes first_mapped image.seg_size image.public has.public)))

@@ -1,5 +1,9 @@
+mod Bytes
 mod Registers
 mod Rows
 mod Items
+mod Units
+mod Checks
+mod Steps
 mod Runs
 mod Law

@@ -9,7 +9,7 @@ use Rattle.cv_word.specs.declared.registers.Flags.{Flags}
 use Rattle.cv_word.specs.declared.registers.Registers.{Registers}
 use Rattle.x64_decode.specs.Spelling.{number}
 use Rattle.x64_decode.specs.declared.instr.Reg.{Reg}
-use Rattle.x64_decode.specs.declared.instr.Reg.TheVariants.{Rax, Rcx, Rdx}
+use Rattle.x64_decode.specs.declared.instr.Reg.TheVariants.{Rax, Rcx, Rdx, Rsp}
 use Rattle.x64_decode.specs.declared.instr.Cond.{Cond}
 use Rattle.x64_decode.specs.declared.instr.Seg.{Seg}
 use Rattle.x64_decode.specs.declared.instr.Seg.TheVariants.{Fs, Gs}
@@ -19,19 +19,16 @@ use Rattle.x64_decode.specs.declared.instr.Instr.{Instr}
 use Rattle.x64_decode.specs.declared.instr.Instr.TheVariants.{Mov, Alu, Test, Imul, Not, Neg, Idiv, Cqo, ShiftImm, ShiftCl, Movsxd, Movzx8, Movsx8, Setcc, Cmov, MovImm32, MovImm64, MovImmS, AluImm, Load, LoadZx8, LoadSx8, LoadSx32, Store, CmpFlat, JmpR10, CallR10, Call, Jmp, Jcc, Ud2, Nop}
 use Rattle.code_sweep.specs.Listing.{StandsAlone}
 use Rattle.taint_flow.specs.Label.{Label, flags, taint, set, set_reg, set_where, is_written, segment_taint, left_by}
-use Rattle.taint_flow.specs.Flow.{instruction_falls, instruction_target, has_private_address, stores_private, shows_private, branches_on_private, divides_private}
+use Rattle.taint_flow.specs.Flow.{instruction_falls, instruction_target, memory_of, base_is_private, instruction_stores_private, shows_private, instruction_branches_on_private, instruction_divides_private}
+use Rattle.taint_flow.specs.Calls.{instruction_is_call}
 use Rattle.x64_alu.specs.declared.fault.FaultKind.{FaultKind}
 use Rattle.x64_alu.specs.declared.fault.FaultKind.TheVariants as fault
 use Rattle.x64_alu.specs.Memory.{Memory, segment, with_segment, loaded, stored}
 use Rattle.x64_alu.specs.CoreStep.{Effect, goes, faults, value, put, put_where, flagged, moved_to, holds, alu_result, alu_flags, shift_result, with_low_byte, byte_count, offset_of, goes_on, after_division, after_load, load_into, after_store, target_of, executed}
 use Rattle.x64_alu.specs.CoreStep as step
-use Rattle.ni_laws.specs.Agreement.{HasSixteen, EqualUnder}
+use Rattle.ni_laws.specs.Agreement.{HasSixteen, EqualUnder, memory}
 use Rattle.ni_laws.proofs.Registers.{equal_put, equal_put_where, equal_put_own, equal_put_own_where, under_flags, equal_flagged, equal_moved}
-use Rattle.std.proofs.lemmas.Bool.{or_parts}
-
--- a memory by its parts
-abbrev pub memory : ℕ → List ℕ → List ℕ → List ℕ → Memory
-memory size code public private = record { size = size; code = code; public = public; private = private }
+use Rattle.std.proofs.lemmas.Bool.{or_parts, true≢false}
 
 -- where an instruction goes on: behind itself, or at its target
 abbrev pub Lands : Instr → ℕ → ℕ → Type 0
@@ -46,10 +43,11 @@ pub data Alike (i : Instr) (next : ℕ) (l : Label) (size : ℕ) (code : List �
 
 -- no rule on labels is broken by the instruction
 pub record KeepsRules (i : Instr) (l : Label) : Type 0 where
-  pub address : has_private_address i l ≡ false
-  pub stores : stores_private i l ≡ false
-  pub branches : branches_on_private i l ≡ false
-  pub divides : divides_private i l ≡ false
+  pub address : base_is_private (memory_of i) l ≡ false
+  pub stores : instruction_stores_private i l ≡ false
+  pub branches : instruction_branches_on_private i l ≡ false
+  pub divides : instruction_divides_private i l ≡ false
+  pub stack : taint (left_by i l) Rsp ≡ false
 
 -- both go on at the next instruction
 on : (i : Instr) (next : ℕ) (l : Label) (size : ℕ) (code public mine yours : List ℕ) (s t : Registers) → instruction_falls i ≡ true → EqualUnder l s t →
@@ -90,7 +88,7 @@ load_row i next l size code public mine yours s t dst mem width extend falls e b
     (after_loads i next l size code public mine yours s t (segment_taint mem.seg) _ _ extend dst falls e (loads mem.seg size code public mine yours (offset_of s mem) width))
 
 -- Two stores at one offset: both are refused, or both are done and the public segments stay equal.
-data StoresAlike (size : ℕ) (code : List ℕ) : Option Memory → Option Memory → Type 0 where
+pub data StoresAlike (size : ℕ) (code : List ℕ) : Option Memory → Option Memory → Type 0 where
   both_kept : StoresAlike size code None None
   both_stored : (public mine yours : List ℕ) → StoresAlike size code (Some (memory size code public mine)) (Some (memory size code public yours))
 
@@ -99,7 +97,7 @@ stores_where : (test : Bool) (size : ℕ) (code public mine yours : List ℕ) �
 stores_where true size code public mine yours = both_stored public mine yours
 stores_where false size code public mine yours = both_kept
 
-stores : (seg : Seg) (size : ℕ) (code public mine yours : List ℕ) (offset width v w : ℕ) (private : Bool) → shows_private seg private ≡ false → (private ≡ false → v ≡ w) →
+pub stores : (seg : Seg) (size : ℕ) (code public mine yours : List ℕ) (offset width v w : ℕ) (private : Bool) → shows_private seg private ≡ false → (private ≡ false → v ≡ w) →
     StoresAlike size code (stored (memory size code public mine) seg offset width v) (stored (memory size code public yours) seg offset width w)
 unfolding stored
 stores Fs size code public mine yours offset width v w private hidden same =
@@ -159,76 +157,76 @@ lands_either c rel next false = inl (refl, refl)
 
 -- THE LAW OF ONE INSTRUCTION
 pub row : (i : Instr) (next : ℕ) (l : Label) (size : ℕ) (code public mine yours : List ℕ) (s t : Registers) →
-    StandsAlone i → KeepsRules i l → EqualUnder l s t →
+    StandsAlone i → instruction_is_call i ≡ false → KeepsRules i l → EqualUnder l s t →
     Alike i next (left_by i l) size code (executed i next (memory size code public mine) s) (executed i next (memory size code public yours) t)
 unfolding executed left_by
-row (Mov wide dst src) next l size code public mine yours s t alone keeps e =
+row (Mov wide dst src) next l size code public mine yours s t alone calls keeps e =
     on _ next _ size code public mine yours _ _ refl (equal_put l s t dst (taint l src) _ _ e (λ h. ap (λ v. cond wide v (v % 2 ^ 32)) (e.registers src h)))
-row (Alu op dst src) next l size code public mine yours s t alone keeps e =
+row (Alu op dst src) next l size code public mine yours s t alone calls keeps e =
     on _ next _ size code public mine yours _ _ refl
     (equal_put_where (step.is_written op) _ _ _ dst _ _ _ (equal_flagged l s t _ _ _ e (both_flags l s t dst src (alu_flags op) e)) (both l s t dst src (alu_result op) e))
-row (Test a b) next l size code public mine yours s t alone keeps e =
+row (Test a b) next l size code public mine yours s t alone calls keeps e =
     on _ next _ size code public mine yours _ _ refl (equal_flagged l s t _ _ _ e (both_flags l s t a b (λ v w. flags_of_bits (bit_and v w)) e))
-row (Imul dst src) next l size code public mine yours s t alone keeps e =
+row (Imul dst src) next l size code public mine yours s t alone calls keeps e =
     on _ next _ size code public mine yours _ _ refl (equal_put _ _ _ dst _ _ _ (equal_flagged l s t true no_flags no_flags e (λ h. refl)) (both l s t dst src multiplied e))
-row (Not r) next l size code public mine yours s t alone keeps e =
+row (Not r) next l size code public mine yours s t alone calls keeps e =
     on _ next _ size code public mine yours _ _ refl (equal_put_own l s t r _ _ e (λ h. ap inverted (e.registers r h)))
-row (Neg r) next l size code public mine yours s t alone keeps e =
+row (Neg r) next l size code public mine yours s t alone calls keeps e =
     on _ next _ size code public mine yours _ _ refl
     (equal_put_own _ _ _ r _ _ (equal_flagged l s t (taint l r) _ _ e (λ h. ap flags_negated (e.registers r h))) (λ h. ap negated (e.registers r (under_flags l r (taint l r) h))))
-row (Idiv r) next l size code public mine yours s t alone keeps e =
+row (Idiv r) next l size code public mine yours s t alone calls keeps e =
     let P : Option (ℕ × ℕ) → Type 0 = λ o. Alike (Idiv r) next (left_by (Idiv r) l) size code
     (executed (Idiv r) next (memory size code public mine) s) (after_division o next (memory size code public yours) t) in
     subst P (operands l s t r e keeps.divides) (division _ next l size code public mine yours s t _ _ (divided (value s Rdx) (value s Rax) (value s r)) refl e)
-row Cqo next l size code public mine yours s t alone keeps e =
+row Cqo next l size code public mine yours s t alone calls keeps e =
     on _ next _ size code public mine yours _ _ refl (equal_put l s t Rdx (taint l Rax) _ _ e (λ h. ap signs_of (e.registers Rax h)))
-row (ShiftImm op r count) next l size code public mine yours s t alone keeps e =
+row (ShiftImm op r count) next l size code public mine yours s t alone calls keeps e =
     on _ next _ size code public mine yours _ _ refl
     (equal_put_own _ _ _ r _ _ (equal_flagged l s t true no_flags no_flags e (λ h. refl)) (λ h. ap (λ v. shift_result op v count) (e.registers r (under_flags l r true h))))
-row (ShiftCl op r) next l size code public mine yours s t alone keeps e =
+row (ShiftCl op r) next l size code public mine yours s t alone calls keeps e =
     on _ next _ size code public mine yours _ _ refl (equal_put _ _ _ r _ _ _ (equal_flagged l s t true no_flags no_flags e (λ h. refl)) (both l s t r Rcx (shift_result op) e))
-row (Movsxd dst src) next l size code public mine yours s t alone keeps e =
+row (Movsxd dst src) next l size code public mine yours s t alone calls keeps e =
     on _ next _ size code public mine yours _ _ refl (equal_put l s t dst (taint l src) _ _ e (λ h. ap (sign_extended 4) (e.registers src h)))
-row (Movzx8 dst src) next l size code public mine yours s t alone keeps e =
+row (Movzx8 dst src) next l size code public mine yours s t alone calls keeps e =
     on _ next _ size code public mine yours _ _ refl (equal_put l s t dst (taint l src) _ _ e (λ h. ap (λ v. v % 2 ^ 8) (e.registers src h)))
-row (Movsx8 dst src) next l size code public mine yours s t alone keeps e =
+row (Movsx8 dst src) next l size code public mine yours s t alone calls keeps e =
     on _ next _ size code public mine yours _ _ refl (equal_put l s t dst (taint l src) _ _ e (λ h. ap (sign_extended 1) (e.registers src h)))
-row (Setcc cond' r) next l size code public mine yours s t alone keeps e =
+row (Setcc cond' r) next l size code public mine yours s t alone calls keeps e =
     on _ next _ size code public mine yours _ _ refl (equal_put l s t r _ _ _ e (λ h.
     let p = or_parts (taint l r) (l flags) h in let x = e.registers r p.0 in let y = e.flags p.1 in cc))
-row (Cmov cond' dst src) next l size code public mine yours s t alone keeps e =
+row (Cmov cond' dst src) next l size code public mine yours s t alone calls keeps e =
     on _ next _ size code public mine yours _ _ refl (equal_put l s t dst _ _ _ e (λ h.
     let p = or_parts (taint l dst) (taint l src || l flags) h in let q = or_parts (taint l src) (l flags) p.1 in
     let x = e.registers dst p.0 in let y = e.registers src q.0 in let z = e.flags q.1 in cc))
-row (MovImm32 dst imm) next l size code public mine yours s t alone keeps e =
+row (MovImm32 dst imm) next l size code public mine yours s t alone calls keeps e =
     on _ next _ size code public mine yours _ _ refl (equal_put l s t dst false imm imm e (λ h. refl))
-row (MovImm64 dst imm) next l size code public mine yours s t alone keeps e =
+row (MovImm64 dst imm) next l size code public mine yours s t alone calls keeps e =
     on _ next _ size code public mine yours _ _ refl (equal_put l s t dst false imm imm e (λ h. refl))
-row (MovImmS dst imm) next l size code public mine yours s t alone keeps e =
+row (MovImmS dst imm) next l size code public mine yours s t alone calls keeps e =
     on _ next _ size code public mine yours _ _ refl (equal_put l s t dst false _ _ e (λ h. refl))
-row (AluImm op dst imm) next l size code public mine yours s t alone keeps e =
+row (AluImm op dst imm) next l size code public mine yours s t alone calls keeps e =
     on _ next _ size code public mine yours _ _ refl
     (equal_put_own_where (step.is_written op) _ _ _ dst _ _ (equal_flagged l s t (taint l dst) _ _ e (λ h. ap (λ v. alu_flags op v (widened imm)) (e.registers dst h)))
     (λ h. ap (λ v. alu_result op v (widened imm)) (e.registers dst (under_flags l dst (taint l dst) h))))
-row (Load wide dst mem) next l size code public mine yours s t alone keeps e =
+row (Load wide dst mem) next l size code public mine yours s t alone calls keeps e =
     load_row _ next l size code public mine yours s t dst mem (cond wide 8 4) (λ v. v) refl e keeps.address
-row (LoadZx8 dst mem) next l size code public mine yours s t alone keeps e =
+row (LoadZx8 dst mem) next l size code public mine yours s t alone calls keeps e =
     load_row _ next l size code public mine yours s t dst mem 1 (λ v. v) refl e keeps.address
-row (LoadSx8 dst mem) next l size code public mine yours s t alone keeps e =
+row (LoadSx8 dst mem) next l size code public mine yours s t alone calls keeps e =
     load_row _ next l size code public mine yours s t dst mem 1 (sign_extended 1) refl e keeps.address
-row (LoadSx32 dst mem) next l size code public mine yours s t alone keeps e =
+row (LoadSx32 dst mem) next l size code public mine yours s t alone calls keeps e =
     load_row _ next l size code public mine yours s t dst mem 4 (sign_extended 4) refl e keeps.address
-row (Store width mem src) next l size code public mine yours s t alone keeps e =
+row (Store width mem src) next l size code public mine yours s t alone calls keeps e =
     store_row _ next l size code public mine yours s t mem (byte_count width) src refl e keeps.address keeps.stores
-row CmpFlat next l size code public mine yours s t alone keeps e = absurd alone
-row JmpR10 next l size code public mine yours s t alone keeps e = absurd alone
-row CallR10 next l size code public mine yours s t alone keeps e = absurd alone
-row (Call rel) next l size code public mine yours s t alone keeps e = absurd alone
-row (Jmp rel) next l size code public mine yours s t alone keeps e =
+row CmpFlat next l size code public mine yours s t alone calls keeps e = absurd alone
+row JmpR10 next l size code public mine yours s t alone calls keeps e = absurd alone
+row CallR10 next l size code public mine yours s t alone calls keeps e = absurd alone
+row (Call rel) next l size code public mine yours s t alone calls keeps e = absurd (true≢false calls)
+row (Jmp rel) next l size code public mine yours s t alone calls keeps e =
     both_go _ _ public mine yours (equal_moved l s t _ _ e refl) (inr refl)
-row (Jcc cond' rel) next l size code public mine yours s t alone keeps e =
+row (Jcc cond' rel) next l size code public mine yours s t alone calls keeps e =
     both_go _ _ public mine yours
     (equal_moved l s t _ _ e (ap (λ f. cond (holds cond' f) (target_of next rel) next) (e.flags keeps.branches)))
     (lands_either cond' rel next (holds cond' s.flags))
-row Ud2 next l size code public mine yours s t alone keeps e = both_fault fault.Undefined
-row Nop next l size code public mine yours s t alone keeps e = on _ next _ size code public mine yours _ _ refl e
+row Ud2 next l size code public mine yours s t alone calls keeps e = both_fault fault.Undefined
+row Nop next l size code public mine yours s t alone calls keeps e = on _ next _ size code public mine yours _ _ refl e

@@ -1,228 +1,189 @@
--- Two runs of an accepted code, step by step.
-use Rattle.std.proofs.Common.{◌≡◌, ◌≢◌, ℕ, zero, suc, ◌+◌, ◌-◌, ◌<◌, ◌≤◌, Bool, true, false, ◌&&◌, not, List, [], ◌∷◌, length, drop, Option, Some, None, refl, sym, ◌∙◌, ap, subst, arith, ◌⊎◌, inl, inr, slice_get, slice_set, cond, map}
-use Rattle.std.proofs.lemmas.Bool.{cases_Bool, false_from_ne_true, and_from, true≢false, lt-ltb, le-leb}
-use Rattle.cv_word.specs.MemoryMap.{code_base, is_in_code}
+-- Two runs of an accepted code: configurations that agree still do after a step, so after a run, and show the same.
+use Rattle.std.proofs.Common.{◌≡◌, ℕ, zero, suc, ◌+◌, ◌-◌, ◌<◌, ◌≤◌, Bool, true, false, List, [], ◌∷◌, length, take, drop, Option, Some, None, refl, sym, ◌∙◌, ap, subst, arith, slice_get, slice_set, cond, map}
+use Rattle.std.proofs.lemmas.Bool.{true≢false}
+use Rattle.cv_word.specs.Words.{AreBytes, word_bytes, spliced}
+use Rattle.cv_word.specs.MemoryMap.{public_base, private_base, is_in_code, is_mapped}
+use Rattle.cv_word.specs.Arithmetic.{subtracted, divided}
 use Rattle.cv_word.specs.declared.registers.Registers.{Registers}
 use Rattle.x64_decode.specs.Spelling.{spelling}
-use Rattle.x64_decode.specs.Reading.{instruction_at}
+use Rattle.x64_decode.specs.declared.instr.Reg.{Reg}
+use Rattle.x64_decode.specs.declared.instr.Reg.TheVariants.{Rax, Rdx, Rsp, Gpr10}
+use Rattle.x64_decode.specs.declared.instr.Seg.{Seg}
+use Rattle.x64_decode.specs.declared.instr.Seg.TheVariants.{Fs, Gs}
 use Rattle.x64_decode.specs.declared.instr.Instr.{Instr}
-use Rattle.x64_decode.specs.declared.instr.Instr.TheVariants.{Jmp, Ud2}
-use Rattle.x64_alu.specs.declared.fault.FaultKind.{FaultKind}
-use Rattle.x64_alu.specs.declared.fault.FaultKind.TheVariants as fault
-use Rattle.x64_alu.specs.Memory.{Memory}
-use Rattle.x64_alu.specs.CoreStep.{Effect, goes, faults, executed, after_fetch, core_step, instruction_in}
-use Rattle.code_sweep.specs.declared.item.Item.{Item}
-use Rattle.code_sweep.specs.declared.item.Item.TheVariants.{Plain}
+use Rattle.x64_decode.specs.declared.instr.Instr.TheVariants.{Idiv, Load, LoadZx8, LoadSx8, LoadSx32, Store, CmpFlat, CallR10}
+use Rattle.x64_decode.specs.declared.instr.Instr.TheVariants as instr
+use Rattle.x64_alu.specs.Memory.{Memory, loaded, stored, flat_loaded, flat_stored, is_segment_word}
+use Rattle.x64_alu.specs.CoreStep.{Effect, goes, faults, value, after_division, after_load, after_store, after_comparison, after_push, calls, target_of, executed, after_fetch, core_step, instruction_in, offset_of}
 use Rattle.code_sweep.specs.declared.item.Placed.{Placed}
-use Rattle.code_sweep.specs.Listing.{item_bytes, IsItem, IsChain, StandsAt, StandsAlone}
-use Rattle.taint_flow.specs.Label.{Label, IsAtMost, left_by}
-use Rattle.taint_flow.specs.Flow.{address, address_after, Labelling, Leads, left_behind, falls_through, instruction_falls, instruction_target, item_target}
-use Rattle.conf_verify.specs.Rules.{is_word, is_call_word, may_end, instruction_ends, IsLast}
+use Rattle.taint_flow.specs.Flow.{Labelling}
 use Rattle.x64_machine.specs.declared.outcome.Outcome.{Outcome}
 use Rattle.x64_machine.specs.declared.outcome.Outcome.TheVariants as outcome
 use Rattle.x64_machine.specs.Run.{Core, Configuration, is_running, after_step, step_core, step, run, View, view}
-use Rattle.ni_laws.specs.Agreement.{EqualUnder, AtItem, CoreAlike, CoresAlike}
-use Rattle.ni_laws.proofs.Registers.{equal_below}
-use Rattle.ni_laws.proofs.Rows.{memory, Lands, Alike, both_go, both_fault, KeepsRules, row}
-use Rattle.ni_laws.proofs.Items.{Facts, chain_item, chain_next, item_behind, plain_of, no_word_of, good_target, keeps_rules}
+use Rattle.ni_laws.specs.Agreement.{CoreAlike, CoresAlike, memory, config, Agree, agree}
+use Rattle.ni_laws.proofs.Bytes.{spliced_bytes}
+use Rattle.ni_laws.proofs.Items.{Facts}
+use Rattle.ni_laws.proofs.Checks.{StepsAlike, both_step, same_fault}
+use Rattle.ni_laws.proofs.Steps.{cores_step}
 
--- what stands at a core's program counter is what takes effect
-fetched : (size : ℕ) (code public private : List ℕ) (s : Registers) (place : ℕ) (ins : Instr) → s.pc ≡ code_base + place → place < length code →
-    instruction_at (drop place code) ≡ Some ins →
-    core_step (memory size code public private) s ≡ executed ins (s.pc + length (spelling ins)) (memory size code public private) s
+-- ---- public memory holds bytes
+
+abbrev LeavesBytes : Effect → Type 0
+LeavesBytes (goes s m) = AreBytes m.public
+LeavesBytes (faults kind) = Unit {0}
+
+abbrev HoldsBytes : Option Memory → Type 0
+HoldsBytes None = Unit {0}
+HoldsBytes (Some m) = AreBytes m.public
+
+stored_where : (test : Bool) (m : Memory) → AreBytes m.public → HoldsBytes (cond test (Some m) None)
+stored_where true m bytes = bytes
+stored_where false m bytes = tt
+
+stored_bytes : (m : Memory) (seg : Seg) (offset width v : ℕ) → AreBytes m.public → HoldsBytes (stored m seg offset width v)
+unfolding stored
+stored_bytes m Fs offset width v bytes = stored_where (is_mapped m.size offset width) _ (spliced_bytes m.public offset width v bytes)
+stored_bytes m Gs offset width v bytes = stored_where (is_mapped m.size offset width) _ bytes
+
+either_bytes : (test : Bool) (m n : Option Memory) → HoldsBytes m → HoldsBytes n → HoldsBytes (cond test m n)
+either_bytes true m n a b = a
+either_bytes false m n a b = b
+
+flat_stored_bytes : (m : Memory) (at v : ℕ) → AreBytes m.public → HoldsBytes (flat_stored m at v)
+unfolding flat_stored
+flat_stored_bytes m at v bytes =
+    either_bytes (is_segment_word m public_base at) _ _ (stored_bytes m Fs (at - public_base) 8 v bytes)
+    (either_bytes (is_segment_word m private_base at) _ _ (stored_bytes m Gs (at - private_base) 8 v bytes) tt)
+
+after_store_bytes : (o : Option Memory) (next : ℕ) (s : Registers) → HoldsBytes o → LeavesBytes (after_store o next s)
+after_store_bytes None next s h = tt
+after_store_bytes (Some m) next s h = h
+
+after_push_bytes : (o : Option Memory) (target : ℕ) (s : Registers) → HoldsBytes o → LeavesBytes (after_push o target s)
+after_push_bytes None target s h = tt
+after_push_bytes (Some m) target s h = h
+
+after_load_bytes : (o : Option ℕ) (extend : ℕ → ℕ) (dst : Reg) (next : ℕ) (m : Memory) (s : Registers) → AreBytes m.public → LeavesBytes (after_load o extend dst next m s)
+after_load_bytes None extend dst next m s h = tt
+after_load_bytes (Some v) extend dst next m s h = h
+
+after_comparison_bytes : (o : Option ℕ) (next : ℕ) (m : Memory) (s : Registers) → AreBytes m.public → LeavesBytes (after_comparison o next m s)
+after_comparison_bytes None next m s h = tt
+after_comparison_bytes (Some v) next m s h = h
+
+after_division_bytes : (o : Option (ℕ × ℕ)) (next : ℕ) (m : Memory) (s : Registers) → AreBytes m.public → LeavesBytes (after_division o next m s)
+after_division_bytes None next m s h = tt
+after_division_bytes (Some q) next m s h = h
+
+executed_bytes : (i : Instr) (next : ℕ) (m : Memory) (s : Registers) → AreBytes m.public → LeavesBytes (executed i next m s)
+unfolding executed
+executed_bytes (Idiv r) next m s h = after_division_bytes _ next m s h
+executed_bytes (Load wide dst mem) next m s h = after_load_bytes _ _ dst next m s h
+executed_bytes (LoadZx8 dst mem) next m s h = after_load_bytes _ _ dst next m s h
+executed_bytes (LoadSx8 dst mem) next m s h = after_load_bytes _ _ dst next m s h
+executed_bytes (LoadSx32 dst mem) next m s h = after_load_bytes _ _ dst next m s h
+executed_bytes (Store width mem src) next m s h = after_store_bytes _ next s (stored_bytes m mem.seg (offset_of s mem) _ (value s src) h)
+executed_bytes CmpFlat next m s h = after_comparison_bytes _ next m s h
+executed_bytes CallR10 next m s h = after_push_bytes _ _ s (flat_stored_bytes m (subtracted (value s Rsp) 8) next h)
+executed_bytes (instr.Call rel) next m s h = after_push_bytes _ _ s (flat_stored_bytes m (subtracted (value s Rsp) 8) next h)
+executed_bytes instr.Ud2 next m s h = tt
+executed_bytes _ next m s h = h
+
+fetched_bytes : (o : Option Instr) (m : Memory) (s : Registers) → AreBytes m.public → LeavesBytes (after_fetch o m s)
+fetched_bytes None m s h = tt
+fetched_bytes (Some i) m s h = executed_bytes i (s.pc + length (spelling i)) m s h
+
+where_bytes : (test : Bool) (e : Effect) → LeavesBytes e → (k : Effect) → LeavesBytes k → LeavesBytes (cond test e k)
+where_bytes true e a k b = a
+where_bytes false e a k b = b
+
+step_bytes : (m : Memory) (s : Registers) → AreBytes m.public → LeavesBytes (core_step m s)
 unfolding core_step
-fetched size code public private s place ins here inside is =
-    let inside' : is_in_code (length code) s.pc ≡ true = and_from _ _ (le-leb code_base s.pc (omega arith)) (lt-ltb s.pc (code_base + length code) (omega arith)) in
-    let there : s.pc - code_base ≡ place = omega arith in
-    let found : instruction_in code s.pc ≡ Some ins = ap (λ n. instruction_at (drop n code)) there ∙ is in
-    let P : Bool → Type 0 = λ b. cond b (after_fetch (instruction_in code s.pc) (memory size code public private) s) (faults fault.Memory) ≡ executed ins (s.pc + length (spelling ins)) (memory size code public private) s in
-    subst P (sym inside') (ap (λ o. after_fetch o (memory size code public private) s) found)
-
--- an item behind which another is reached can't end its procedure
-falls_on : (ins : Instr) → instruction_falls ins ≡ true → instruction_ends ins ≡ false
-falls_on (Jmp rel) e = absurd (true≢false (sym e))
-falls_on Ud2 e = absurd (true≢false (sym e))
-falls_on _ e = refl
-
--- the registers behind an instruction stand at the start of an item again: at the one behind it ..
-landed_behind : (prefix code : List ℕ) (items : List Placed) (labels : Labelling) → Facts prefix code items labels → (i : ℕ) (p : Placed) (ins : Instr) (s t : Registers) →
-    slice_get items i ≡ Some p → p.item ≡ Plain ins → instruction_falls ins ≡ true → s.pc ≡ address_after p →
-    EqualUnder (left_by ins (labels i)) s t → AtItem items labels s t
-landed_behind prefix code items labels facts i p ins s t stands is falls here e =
-    let not_end : may_end p.item ≡ false = ap may_end is ∙ falls_on ins falls in
-    let not_last : IsLast items i → ⊥ = λ last. facts.ends p.at (i, p, stands, refl, inr (last, not_end)) in
-    let behind = item_behind items i p stands (λ end. not_last (inl end)) in
-    let q : Placed = behind.0 in
-    let stands' : slice_get items (suc i) ≡ Some q = behind.1 in
-    let no_call : is_call_word q.item ≡ false = false_from_ne_true (is_call_word q.item) (λ h. not_last (inr (q, stands', h))) in
-    let at_q = chain_item prefix code items 0 (length code) (suc i) q facts.listing stands' in
-    let next : q.at ≡ p.at + p.len = chain_next prefix code items 0 (length code) i p q facts.listing stands stands' in
-    let leads : Leads items i (suc i) = (p, stands, inl (ap falls_through is ∙ falls, refl)) in
-    let below : IsAtMost (left_behind p.item (labels i)) (labels (suc i)) = facts.meets.leads i (suc i) p stands leads in
-    let P : Item → Type 0 = λ item. IsAtMost (left_behind item (labels i)) (labels (suc i)) in
-    record {
-      i = suc i;
-      p = q;
-      stands = stands';
-      no_word = no_word_of q.at q.item no_call at_q.0.admitted;
-      here = omega (arith, here, next);
-      equal = equal_below _ _ s t (subst P is below) e;
-    }
-
--- .. or at its target
-landed_at : (prefix code : List ℕ) (items : List Placed) (labels : Labelling) → Facts prefix code items labels → (i : ℕ) (p : Placed) (ins : Instr) (s t : Registers) →
-    slice_get items i ≡ Some p → p.item ≡ Plain ins → instruction_target ins (address_after p) ≡ Some s.pc →
-    EqualUnder (left_by ins (labels i)) s t → AtItem items labels s t
-landed_at prefix code items labels facts i p ins s t stands is target e =
-    let jumps = ap (λ item. item_target item (address_after p)) is ∙ target in
-    let good = good_target items i s.pc (λ none. facts.jumps p.at (i, p, s.pc, stands, refl, jumps, none)) in
-    let leads : Leads items i good.0 = (p, stands, inr (good.1, good.2, jumps ∙ ap (λ n. Some n) (sym good.3))) in
-    let below : IsAtMost (left_behind p.item (labels i)) (labels good.0) = facts.meets.leads i good.0 p stands leads in
-    let P : Item → Type 0 = λ item. IsAtMost (left_behind item (labels i)) (labels good.0) in
-    record {
-      i = good.0;
-      p = good.1;
-      stands = good.2;
-      no_word = good.4;
-      here = sym good.3;
-      equal = equal_below _ _ s t (subst P is below) e;
-    }
-
-landed : (prefix code : List ℕ) (items : List Placed) (labels : Labelling) → Facts prefix code items labels → (i : ℕ) (p : Placed) (ins : Instr) (s t : Registers) →
-    slice_get items i ≡ Some p → p.item ≡ Plain ins → Lands ins (address_after p) s.pc →
-    EqualUnder (left_by ins (labels i)) s t → AtItem items labels s t
-landed prefix code items labels facts i p ins s t stands is (inl behind) e = landed_behind prefix code items labels facts i p ins s t stands is behind.0 behind.1 e
-landed prefix code items labels facts i p ins s t stands is (inr target) e = landed_at prefix code items labels facts i p ins s t stands is target e
-
--- Two effects of one step: both go on at an item again, with the same public memory, or the fault is the same.
-data StepsAlike (items : List Placed) (labels : Labelling) (size : ℕ) (code : List ℕ) : Effect → Effect → Type 0 where
-  both_step : (s t : Registers) (public mine yours : List ℕ) → AtItem items labels s t →
-      StepsAlike items labels size code (goes s (memory size code public mine)) (goes t (memory size code public yours))
-  same_fault : (kind : FaultKind) → StepsAlike items labels size code (faults kind) (faults kind)
-
-steps_from : (prefix code : List ℕ) (items : List Placed) (labels : Labelling) → Facts prefix code items labels → (i : ℕ) (p : Placed) (ins : Instr) (size : ℕ) (e f : Effect) →
-    slice_get items i ≡ Some p → p.item ≡ Plain ins → Alike ins (address_after p) (left_by ins (labels i)) size code e f → StepsAlike items labels size code e f
-steps_from prefix code items labels facts i p ins size e f stands is (both_go s t public mine yours equal lands) =
-    both_step s t public mine yours (landed prefix code items labels facts i p ins s t stands is lands equal)
-steps_from prefix code items labels facts i p ins size e f stands is (both_fault kind) = same_fault kind
-
--- one step of two cores at one item
-cores_step : (prefix code : List ℕ) (items : List Placed) (labels : Labelling) → Facts prefix code items labels → (size : ℕ) (public mine yours : List ℕ) (s t : Registers) →
-    AtItem items labels s t →
-    StepsAlike items labels size code (core_step (memory size code public mine) s) (core_step (memory size code public yours) t)
-unfolding item_bytes
-cores_step prefix code items labels facts size public mine yours s t a =
-    let at_p = chain_item prefix code items 0 (length code) a.i a.p facts.listing a.stands in
-    let plain = plain_of a.p.at a.p.item a.no_word at_p.0.admitted in
-    let ins : Instr = plain.0 in
-    let is : a.p.item ≡ Plain ins = plain.1 in
-    let P : Item → Type 0 = λ item. IsItem prefix (drop a.p.at code) item in
-    let stands : IsItem prefix (drop a.p.at code) (Plain ins) = subst P is at_p.0.is in
-    let long : a.p.len ≡ length (spelling ins) = at_p.1 ∙ ap (λ item. length (item_bytes prefix item)) is in
-    let there : t.pc ≡ address a.p = sym a.equal.counters ∙ a.here in
-    let next : s.pc + length (spelling ins) ≡ address_after a.p = omega (arith, a.here, long) in
-    let next' : t.pc + length (spelling ins) ≡ address_after a.p = omega (arith, there, long) in
-    let e : core_step (memory size code public mine) s ≡ executed ins (address_after a.p) (memory size code public mine) s =
-    fetched size code public mine s a.p.at ins a.here at_p.0.inside stands.3 ∙ ap (λ n. executed ins n (memory size code public mine) s) next in
-    let f : core_step (memory size code public yours) t ≡ executed ins (address_after a.p) (memory size code public yours) t =
-    fetched size code public yours t a.p.at ins there at_p.0.inside stands.3 ∙ ap (λ n. executed ins n (memory size code public yours) t) next' in
-    let alike = row ins (address_after a.p) (labels a.i) size code public mine yours s t plain.2 (keeps_rules items labels a.i a.p ins a.stands is facts.flow) a.equal in
-    let Q : Effect → Type 0 = λ x. StepsAlike items labels size code x (core_step (memory size code public yours) t) in
-    let R : Effect → Type 0 = λ y. StepsAlike items labels size code (executed ins (address_after a.p) (memory size code public mine) s) y in
-    subst Q (sym e) (subst R (sym f) (steps_from prefix code items labels facts a.i a.p ins size _ _ a.stands is alike))
+step_bytes m s h = where_bytes (is_in_code (length m.code) s.pc) _ (fetched_bytes (instruction_in m.code s.pc) m s h) _ tt
 
 -- ---- configurations
 
--- a configuration by its parts
-abbrev pub config : List Core → Memory → Outcome → Configuration
-config cores m o = record { cores = cores; memory = m; outcome = o }
-
--- Two configurations: their cores are alike, and size, code, public memory and outcome are the same.
-pub data ConfigsAlike (items : List Placed) (labels : Labelling) (size : ℕ) (code : List ℕ) : Configuration → Configuration → Type 0 where
-  alike : (cs ds : List Core) (public mine yours : List ℕ) (o : Outcome) → CoresAlike items labels cs ds →
-      ConfigsAlike items labels size code (config cs (memory size code public mine) o) (config ds (memory size code public yours) o)
-
 -- the cores of one number are both there or neither is
-data PairAlike (items : List Placed) (labels : Labelling) : Option Core → Option Core → Type 0 where
-  no_core : PairAlike items labels None None
-  both_cores : (c d : Core) → CoreAlike items labels c d → PairAlike items labels (Some c) (Some d)
+data PairAlike (prefix code : List ℕ) (items : List Placed) (labels : Labelling) : Option Core → Option Core → Type 0 where
+  no_core : PairAlike prefix code items labels None None
+  both_cores : (c d : Core) → CoreAlike prefix code items labels c d → PairAlike prefix code items labels (Some c) (Some d)
 
-pair_at : (items : List Placed) (labels : Labelling) (cs ds : List Core) (i : ℕ) → CoresAlike items labels cs ds → PairAlike items labels (slice_get cs i) (slice_get ds i)
-pair_at items labels [] [] i a = no_core
-pair_at items labels (c ∷ cs) (d ∷ ds) zero a = both_cores c d a.0
-pair_at items labels (c ∷ cs) (d ∷ ds) (suc i) a = pair_at items labels cs ds i a.1
-pair_at items labels [] (d ∷ ds) i a = absurd a
-pair_at items labels (c ∷ cs) [] i a = absurd a
+pair_at : (prefix code : List ℕ) (items : List Placed) (labels : Labelling) (cs ds : List Core) (i : ℕ) → CoresAlike prefix code items labels cs ds → PairAlike prefix code items labels (slice_get cs i) (slice_get ds i)
+pair_at prefix code items labels [] [] i a = no_core
+pair_at prefix code items labels (c ∷ cs) (d ∷ ds) zero a = both_cores c d a.0
+pair_at prefix code items labels (c ∷ cs) (d ∷ ds) (suc i) a = pair_at prefix code items labels cs ds i a.1
+pair_at prefix code items labels [] (d ∷ ds) i a = absurd a
+pair_at prefix code items labels (c ∷ cs) [] i a = absurd a
 
-alike_set : (items : List Placed) (labels : Labelling) (cs ds : List Core) (i : ℕ) (c d : Core) → CoresAlike items labels cs ds → CoreAlike items labels c d →
-    CoresAlike items labels (slice_set cs i c) (slice_set ds i d)
-alike_set items labels [] [] i c d a b = a
-alike_set items labels (x ∷ cs) (y ∷ ds) zero c d a b = (b, a.1)
-alike_set items labels (x ∷ cs) (y ∷ ds) (suc i) c d a b = (a.0, alike_set items labels cs ds i c d a.1 b)
-alike_set items labels [] (y ∷ ds) i c d a b = absurd a
-alike_set items labels (x ∷ cs) [] i c d a b = absurd a
+alike_set : (prefix code : List ℕ) (items : List Placed) (labels : Labelling) (cs ds : List Core) (i : ℕ) (c d : Core) → CoresAlike prefix code items labels cs ds → CoreAlike prefix code items labels c d →
+    CoresAlike prefix code items labels (slice_set cs i c) (slice_set ds i d)
+alike_set prefix code items labels [] [] i c d a b = a
+alike_set prefix code items labels (x ∷ cs) (y ∷ ds) zero c d a b = (b, a.1)
+alike_set prefix code items labels (x ∷ cs) (y ∷ ds) (suc i) c d a b = (a.0, alike_set prefix code items labels cs ds i c d a.1 b)
+alike_set prefix code items labels [] (y ∷ ds) i c d a b = absurd a
+alike_set prefix code items labels (x ∷ cs) [] i c d a b = absurd a
 
-after_alike : (items : List Placed) (labels : Labelling) (size : ℕ) (code : List ℕ) (cs ds : List Core) (public mine yours : List ℕ) (o : Outcome) (i : ℕ) (c d : Core) (e f : Effect) →
-    CoresAlike items labels cs ds → c.ended ≡ d.ended → c.registers.pc ≡ d.registers.pc → StepsAlike items labels size code e f →
-    ConfigsAlike items labels size code
+after_alike : (prefix code : List ℕ) (items : List Placed) (labels : Labelling) (size : ℕ) (cs ds : List Core) (public mine yours : List ℕ) (o : Outcome) (i : ℕ) (c d : Core) (e f : Effect) →
+    CoresAlike prefix code items labels cs ds → AreBytes public → LeavesBytes e → c.ended ≡ d.ended → c.registers.pc ≡ d.registers.pc → StepsAlike prefix code items labels size e f →
+    Agree prefix code items labels size
     (after_step e i c (config cs (memory size code public mine) o)) (after_step f i d (config ds (memory size code public yours) o))
-after_alike items labels size code cs ds public mine yours o i c d e f a ended pcs (both_step s t public' mine' yours' at) =
-    alike _ _ public' mine' yours' o (alike_set items labels cs ds i _ _ a (record { ended = ended; counters = at.equal.counters; item = λ h. at }))
-after_alike items labels size code cs ds public mine yours o i c d e f a ended pcs (same_fault kind) =
-    let P : ℕ → Type 0 = λ pc. ConfigsAlike items labels size code
+after_alike prefix code items labels size cs ds public mine yours o i c d e f a bytes left ended pcs (both_step s t public' mine' yours' counters standing) =
+    agree _ _ public' mine' yours' o (alike_set prefix code items labels cs ds i _ _ a (record { ended = ended; counters = counters; standing = λ h. standing })) left
+after_alike prefix code items labels size cs ds public mine yours o i c d e f a bytes left ended pcs (same_fault kind) =
+    let P : ℕ → Type 0 = λ pc. Agree prefix code items labels size
     (config cs (memory size code public mine) (outcome.Fault i c.registers.pc kind)) (config ds (memory size code public yours) (outcome.Fault i pc kind)) in
-    subst P pcs (alike cs ds public mine yours (outcome.Fault i c.registers.pc kind) a)
+    subst P pcs (agree cs ds public mine yours (outcome.Fault i c.registers.pc kind) a bytes)
 
-unless : (items : List Placed) (labels : Labelling) (size : ℕ) (code : List ℕ) (a b : Bool) (x y z w : Configuration) → a ≡ b →
-    ConfigsAlike items labels size code x y → (a ≡ false → ConfigsAlike items labels size code z w) →
-    ConfigsAlike items labels size code (cond a x z) (cond b y w)
-unless items labels size code true true x y z w same ended running = ended
-unless items labels size code false false x y z w same ended running = running refl
-unless items labels size code true false x y z w same ended running = absurd (true≢false same)
-unless items labels size code false true x y z w same ended running = absurd (true≢false (sym same))
+unless : (prefix code : List ℕ) (items : List Placed) (labels : Labelling) (size : ℕ) (a b : Bool) (x y z w : Configuration) → a ≡ b →
+    Agree prefix code items labels size x y → (a ≡ false → Agree prefix code items labels size z w) →
+    Agree prefix code items labels size (cond a x z) (cond b y w)
+unless prefix code items labels size true true x y z w same ended running = ended
+unless prefix code items labels size false false x y z w same ended running = running refl
+unless prefix code items labels size true false x y z w same ended running = absurd (true≢false same)
+unless prefix code items labels size false true x y z w same ended running = absurd (true≢false (sym same))
 
 core_steps : (prefix code : List ℕ) (items : List Placed) (labels : Labelling) → Facts prefix code items labels → (size : ℕ) (cs ds : List Core) (public mine yours : List ℕ) (o : Outcome) (i : ℕ) (oc od : Option Core) →
-    CoresAlike items labels cs ds → PairAlike items labels oc od →
-    ConfigsAlike items labels size code
+    CoresAlike prefix code items labels cs ds → AreBytes public → PairAlike prefix code items labels oc od →
+    Agree prefix code items labels size
     (step_core oc i (config cs (memory size code public mine) o)) (step_core od i (config ds (memory size code public yours) o))
-core_steps prefix code items labels facts size cs ds public mine yours o i oc od a no_core = alike cs ds public mine yours o a
-core_steps prefix code items labels facts size cs ds public mine yours o i oc od a (both_cores c d pair) =
-    unless items labels size code c.ended d.ended _ _ _ _ pair.ended (alike cs ds public mine yours o a)
-    (λ runs. after_alike items labels size code cs ds public mine yours o i c d _ _ a pair.ended pair.counters
-    (cores_step prefix code items labels facts size public mine yours c.registers d.registers (pair.item runs)))
+core_steps prefix code items labels facts size cs ds public mine yours o i oc od a bytes no_core = agree cs ds public mine yours o a bytes
+core_steps prefix code items labels facts size cs ds public mine yours o i oc od a bytes (both_cores c d pair) =
+    unless prefix code items labels size c.ended d.ended _ _ _ _ pair.ended (agree cs ds public mine yours o a bytes)
+    (λ runs. after_alike prefix code items labels size cs ds public mine yours o i c d _ _ a bytes (step_bytes (memory size code public mine) c.registers bytes) pair.ended pair.counters
+    (cores_step prefix code items labels facts size public mine yours c.registers d.registers bytes (pair.standing runs)))
 
 -- THE LAW OF ONE STEP
 pub step_alike : (prefix code : List ℕ) (items : List Placed) (labels : Labelling) → Facts prefix code items labels → (size i : ℕ) (c d : Configuration) →
-    ConfigsAlike items labels size code c d → ConfigsAlike items labels size code (step i c) (step i d)
+    Agree prefix code items labels size c d → Agree prefix code items labels size (step i c) (step i d)
 unfolding step
-step_alike prefix code items labels facts size i c d (alike cs ds public mine yours outcome.Running a) =
-    core_steps prefix code items labels facts size cs ds public mine yours outcome.Running i _ _ a (pair_at items labels cs ds i a)
-step_alike prefix code items labels facts size i c d (alike cs ds public mine yours (outcome.Fault core at kind) a) =
-    alike cs ds public mine yours (outcome.Fault core at kind) a
+step_alike prefix code items labels facts size i c d (agree cs ds public mine yours outcome.Running a bytes) =
+    core_steps prefix code items labels facts size cs ds public mine yours outcome.Running i _ _ a bytes (pair_at prefix code items labels cs ds i a)
+step_alike prefix code items labels facts size i c d (agree cs ds public mine yours (outcome.Fault core at kind) a bytes) =
+    agree cs ds public mine yours (outcome.Fault core at kind) a bytes
 
 -- a whole run
 pub run_alike : (prefix code : List ℕ) (items : List Placed) (labels : Labelling) → Facts prefix code items labels → (size : ℕ) (schedule : List ℕ) (c d : Configuration) →
-    ConfigsAlike items labels size code c d → ConfigsAlike items labels size code (run schedule c) (run schedule d)
+    Agree prefix code items labels size c d → Agree prefix code items labels size (run schedule c) (run schedule d)
 run_alike prefix code items labels facts size [] c d a = a
 run_alike prefix code items labels facts size (i ∷ schedule) c d a =
     run_alike prefix code items labels facts size schedule (step i c) (step i d) (step_alike prefix code items labels facts size i c d a)
 
 -- ---- views
 
-same_ended : (items : List Placed) (labels : Labelling) (cs ds : List Core) → CoresAlike items labels cs ds → map (λ (core : Core). core.ended) cs ≡ map (λ (core : Core). core.ended) ds
-same_ended items labels [] [] a = refl
-same_ended items labels (c ∷ cs) (d ∷ ds) a = let x = a.0.ended in let y = same_ended items labels cs ds a.1 in cc
-same_ended items labels [] (d ∷ ds) a = absurd a
-same_ended items labels (c ∷ cs) [] a = absurd a
+same_ended : (prefix code : List ℕ) (items : List Placed) (labels : Labelling) (cs ds : List Core) → CoresAlike prefix code items labels cs ds → map (λ (core : Core). core.ended) cs ≡ map (λ (core : Core). core.ended) ds
+same_ended prefix code items labels [] [] a = refl
+same_ended prefix code items labels (c ∷ cs) (d ∷ ds) a = let x = a.0.ended in let y = same_ended prefix code items labels cs ds a.1 in cc
+same_ended prefix code items labels [] (d ∷ ds) a = absurd a
+same_ended prefix code items labels (c ∷ cs) [] a = absurd a
 
-same_counters : (items : List Placed) (labels : Labelling) (cs ds : List Core) → CoresAlike items labels cs ds → map (λ (core : Core). core.registers.pc) cs ≡ map (λ (core : Core). core.registers.pc) ds
-same_counters items labels [] [] a = refl
-same_counters items labels (c ∷ cs) (d ∷ ds) a = let x = a.0.counters in let y = same_counters items labels cs ds a.1 in cc
-same_counters items labels [] (d ∷ ds) a = absurd a
-same_counters items labels (c ∷ cs) [] a = absurd a
+same_counters : (prefix code : List ℕ) (items : List Placed) (labels : Labelling) (cs ds : List Core) → CoresAlike prefix code items labels cs ds → map (λ (core : Core). core.registers.pc) cs ≡ map (λ (core : Core). core.registers.pc) ds
+same_counters prefix code items labels [] [] a = refl
+same_counters prefix code items labels (c ∷ cs) (d ∷ ds) a = let x = a.0.counters in let y = same_counters prefix code items labels cs ds a.1 in cc
+same_counters prefix code items labels [] (d ∷ ds) a = absurd a
+same_counters prefix code items labels (c ∷ cs) [] a = absurd a
 
-pub same_view : (items : List Placed) (labels : Labelling) (size : ℕ) (code : List ℕ) (c d : Configuration) → ConfigsAlike items labels size code c d → view c ≡ view d
-same_view items labels size code c d (alike cs ds public mine yours o a) =
-    let x = same_ended items labels cs ds a in let y = same_counters items labels cs ds a in
+pub same_view : (prefix code : List ℕ) (items : List Placed) (labels : Labelling) (size : ℕ) (c d : Configuration) → Agree prefix code items labels size c d → view c ≡ view d
+same_view prefix code items labels size c d (agree cs ds public mine yours o a bytes) =
+    let x = same_ended prefix code items labels cs ds a in let y = same_counters prefix code items labels cs ds a in
     ap (λ (ended : List Bool). let v : View = record { outcome = o; ended = ended; counters = map (λ (core : Core). core.registers.pc) cs; public = public } in v) x
     ∙ ap (λ (counters : List ℕ). let v : View = record { outcome = o; ended = map (λ (core : Core). core.ended) ds; counters = counters; public = public } in v) y

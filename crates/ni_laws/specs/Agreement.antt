@@ -1,15 +1,25 @@
 -- When two configurations of the same accepted code agree.
-use Rattle.std.specs.Prelude.{◌≡◌, ℕ, suc, ◌+◌, Bool, true, false, ◌⊎◌, List, [], ◌∷◌, length, slice_get, Some}
+use Rattle.std.specs.Prelude.{◌≡◌, ℕ, suc, ◌+◌, ◌^◌, ◌<◌, ◌↔◌, Bool, true, false, List, [], ◌∷◌, length, take, drop, Option, Some, None, slice_get}
+use Rattle.cv_word.specs.Words.{AreBytes, little_endian}
+use Rattle.cv_word.specs.MemoryMap.{code_base}
+use Rattle.cv_word.specs.Gates.{gate_bits, gate_address}
 use Rattle.cv_word.specs.declared.registers.Registers.{Registers}
 use Rattle.x64_decode.specs.declared.instr.Reg.{Reg}
-use Rattle.x64_decode.specs.declared.instr.Reg.TheVariants.{Rsp}
+use Rattle.x64_decode.specs.declared.instr.Reg.TheVariants.{Rsp, Gpr10, Gpr11}
+use Rattle.magic_words.specs.MagicWords.{call_word, return_word}
+use Rattle.code_sweep.specs.Units.{inverse}
+use Rattle.code_sweep.specs.declared.item.Item.{Item}
+use Rattle.code_sweep.specs.declared.item.Item.TheVariants.{ReturnUnit, CallUnit}
 use Rattle.code_sweep.specs.declared.item.Placed.{Placed}
-use Rattle.taint_flow.specs.Label.{Label, flags, taint}
+use Rattle.taint_flow.specs.Label.{Label, flags, taint, set, set_reg, entry_label}
 use Rattle.taint_flow.specs.Flow.{Labelling, address}
 use Rattle.x64_alu.specs.Memory.{Memory}
 use Rattle.x64_alu.specs.CoreStep.{value}
 use Rattle.conf_verify.specs.Rules.{is_word}
+use Rattle.x64_machine.specs.declared.outcome.Outcome.{Outcome}
 use Rattle.x64_machine.specs.Run.{Core, Configuration}
+
+-- ---- two cores
 
 -- a core has sixteen registers
 abbrev pub HasSixteen : Registers → Type 0
@@ -23,23 +33,144 @@ pub record EqualUnder (l : Label) (s t : Registers) : Type 0 where
   pub flags : l flags ≡ false → s.flags ≡ t.flags
   pub counters : s.pc ≡ t.pc
 
--- both cores stand at the start of the same item, no word, and what its label leaves public is equal
+-- The registers that a label leaves public are equal, and rsp is, whatever the label says of it.
+pub record Equal (l : Label) (s t : Registers) : Type 0 where
+  pub under : EqualUnder l s t
+  pub stack : value s Rsp ≡ value t Rsp
+
+-- At the start of an item that is no word, what its label leaves public is equal.
 pub record AtItem (items : List Placed) (labels : Labelling) (s t : Registers) : Type 0 where
   pub i : ℕ
   pub p : Placed
   pub stands : slice_get items i ≡ Some p
   pub no_word : is_word p.item ≡ false
   pub here : s.pc ≡ address p
-  pub equal : EqualUnder (labels i) s t
+  pub equal : Equal (labels i) s t
 
--- Two cores: both have ended or neither has; the program counters are equal; and where they run, they stand at one item.
-pub record CoreAlike (items : List Placed) (labels : Labelling) (c d : Core) : Type 0 where
+-- Inside a check unit r10, r11 and the flags are the unit's own.
+abbrev pub inside_label : Label → Label
+inside_label l = set_reg Gpr10 true (set_reg Gpr11 true (set flags true l))
+
+-- what is public before the unit is equal; r10 holds the address that is checked, the same in both and below 2 ^ 32
+pub record InUnit (l : Label) (s t : Registers) : Type 0 where
+  pub equal : Equal (inside_label l) s t
+  pub checked : value s Gpr10 ≡ value t Gpr10
+  pub small : value s Gpr10 < 2 ^ 32
+
+-- in a return unit, before 8 is added to rsp
+pub record AtRaise (items : List Placed) (labels : Labelling) (s t : Registers) : Type 0 where
+  pub i : ℕ
+  pub p : Placed
+  pub bit : ℕ
+  pub stands : slice_get items i ≡ Some p
+  pub unit : p.item ≡ ReturnUnit bit
+  pub here : s.pc ≡ address p + 10
+  pub inside : InUnit (labels i) s t
+
+-- The check of a unit, told by the instruction that is next: MOV of the inverse to r11, NOT, CMP, JE, UD2, ADD, and the jump
+-- or the call.
+pub data Stage : Type 0 where
+  loads : Stage
+  inverts : Stage
+  compares : Stage
+  branches : Stage
+  traps : Stage
+  advances : Stage
+  leaves : Stage
+
+abbrev pub stage_offset : Stage → ℕ
+stage_offset loads = 0
+stage_offset inverts = 10
+stage_offset compares = 13
+stage_offset branches = 21
+stage_offset traps = 27
+stage_offset advances = 29
+stage_offset leaves = 36
+
+-- where in a unit its check begins, and the word that it looks for
+abbrev pub check_of : List ℕ → Item → Option (ℕ × List ℕ)
+check_of prefix (ReturnUnit bit) = Some (17, return_word bit prefix)
+check_of prefix (CallUnit r bits) = Some (3, call_word bits prefix)
+check_of prefix _ = None
+
+-- the 8 bytes of the code at a flat address are the word
+pub record WordStands (code word : List ℕ) (at : ℕ) : Type 0 where
+  pub place : ℕ
+  pub here : at ≡ code_base + place
+  pub stands : take 8 (drop place code) ≡ word
+
+-- What a core holds at a stage: r11 the constant, and from NOT on the word; ZF, before JE, whether the word stands at r10;
+-- before the addition the word stands at r10, and behind it at r10 less 8.
+abbrev pub Holds : List ℕ → List ℕ → Stage → Registers → Type 0
+Holds code word loads s = Unit {0}
+Holds code word inverts s = value s Gpr11 ≡ little_endian (inverse word)
+Holds code word compares s = value s Gpr11 ≡ little_endian word
+Holds code word branches s = (value s Gpr11 ≡ little_endian word) × ((s.flags.zf ≡ true) ↔ WordStands code word (value s Gpr10))
+Holds code word traps s = value s Gpr11 ≡ little_endian word
+Holds code word advances s = (value s Gpr11 ≡ little_endian word) × WordStands code word (value s Gpr10)
+Holds code word leaves s = (value s Gpr11 ≡ little_endian word) × ((at : ℕ) × (value s Gpr10 ≡ at + 8) × WordStands code word at)
+
+-- from CMP on the flags are equal
+abbrev pub has_compared : Stage → Bool
+has_compared branches = true
+has_compared traps = true
+has_compared advances = true
+has_compared leaves = true
+has_compared _ = false
+
+-- inside the check of a unit
+pub record AtStage (prefix code : List ℕ) (items : List Placed) (labels : Labelling) (stage : Stage) (s t : Registers) : Type 0 where
+  pub i : ℕ
+  pub p : Placed
+  pub start : ℕ
+  pub word : List ℕ
+  pub stands : slice_get items i ≡ Some p
+  pub checks : check_of prefix p.item ≡ Some (start, word)
+  pub here : s.pc ≡ address p + start + stage_offset stage
+  pub inside : InUnit (labels i) s t
+  pub mine : Holds code word stage s
+  pub yours : Holds code word stage t
+  pub flags : has_compared stage ≡ true → s.flags ≡ t.flags
+
+-- at a gate the arguments whose bit is clear are equal
+pub record AtGate (s t : Registers) : Type 0 where
+  pub number : ℕ
+  pub bits : ℕ
+  pub gate : gate_bits number ≡ Some bits
+  pub here : s.pc ≡ gate_address number
+  pub equal : Equal (entry_label bits) s t
+
+-- A running core stands at the start of an item that is no word, inside a unit, or at a gate.
+pub data Standing (prefix code : List ℕ) (items : List Placed) (labels : Labelling) (s t : Registers) : Type 0 where
+  at_item : AtItem items labels s t → Standing prefix code items labels s t
+  at_raise : AtRaise items labels s t → Standing prefix code items labels s t
+  at_stage : (stage : Stage) → AtStage prefix code items labels stage s t → Standing prefix code items labels s t
+  at_gate : AtGate s t → Standing prefix code items labels s t
+
+-- ---- two configurations
+
+-- Two cores: both have ended or neither has; the program counters are equal; and where they run, they stand alike.
+pub record CoreAlike (prefix code : List ℕ) (items : List Placed) (labels : Labelling) (c d : Core) : Type 0 where
   pub ended : c.ended ≡ d.ended
   pub counters : c.registers.pc ≡ d.registers.pc
-  pub item : c.ended ≡ false → AtItem items labels c.registers d.registers
+  pub standing : c.ended ≡ false → Standing prefix code items labels c.registers d.registers
 
-abbrev pub CoresAlike : List Placed → Labelling → List Core → List Core → Type 0
-CoresAlike items labels [] [] = Unit {0}
-CoresAlike items labels (c ∷ cs) (d ∷ ds) = CoreAlike items labels c d × CoresAlike items labels cs ds
-CoresAlike items labels [] (d ∷ ds) = ⊥
-CoresAlike items labels (c ∷ cs) [] = ⊥
+abbrev pub CoresAlike : List ℕ → List ℕ → List Placed → Labelling → List Core → List Core → Type 0
+CoresAlike prefix code items labels [] [] = Unit {0}
+CoresAlike prefix code items labels (c ∷ cs) (d ∷ ds) = CoreAlike prefix code items labels c d × CoresAlike prefix code items labels cs ds
+CoresAlike prefix code items labels [] (d ∷ ds) = ⊥
+CoresAlike prefix code items labels (c ∷ cs) [] = ⊥
+
+-- a memory by its parts
+abbrev pub memory : ℕ → List ℕ → List ℕ → List ℕ → Memory
+memory size code public private = record { size = size; code = code; public = public; private = private }
+
+-- a configuration by its parts
+abbrev pub config : List Core → Memory → Outcome → Configuration
+config cores m o = record { cores = cores; memory = m; outcome = o }
+
+-- Two configurations of a code agree: their cores are alike, and size, public memory, which holds bytes, and outcome are the
+-- same. So their views are equal.
+pub data Agree (prefix code : List ℕ) (items : List Placed) (labels : Labelling) (size : ℕ) : Configuration → Configuration → Type 0 where
+  agree : (cs ds : List Core) (public mine yours : List ℕ) (o : Outcome) → CoresAlike prefix code items labels cs ds → AreBytes public →
+      Agree prefix code items labels size (config cs (memory size code public mine) o) (config ds (memory size code public yours) o)

@@ -1,0 +1,466 @@
+-- One step of two cores of an accepted code that stand alike: both go on and stand alike again, or both fault alike.
+use Rattle.std.proofs.Common.{◌≡◌, ◌≢◌, ℕ, zero, suc, ◌+◌, ◌-◌, ◌*◌, ◌%◌, ◌^◌, ◌<◌, ◌≤◌, Bool, true, false, ◌&&◌, not, List, [], ◌∷◌, length, take, drop, Option, Some, None, refl, sym, ◌∙◌, ap, subst, arith, ◌⊎◌, inl, inr, slice_get, slice_set, cond, map, ℤ, pos, nat_le, nat_lt}
+use Rattle.std.proofs.lemmas.Bool.{cases_Bool, false_from_ne_true, and_from, and_left, true≢false, lt-ltb, le-leb, lt-leb}
+use Rattle.std.proofs.lemmas.Option.{slice_get_within, same_Some, none-some}
+use Rattle.cv_word.specs.Words.{AreBytes, little_endian, widened, spliced, word_bytes}
+use Rattle.cv_word.specs.MemoryMap.{code_base, public_base, private_base, is_in_code, is_mapped, operand_offset}
+use Rattle.cv_word.specs.Arithmetic.{added, subtracted, divided}
+use Rattle.cv_word.specs.Gates.{gate_bits, gate_table, gate_address}
+use Rattle.cv_word.specs.declared.registers.Flags.{Flags}
+use Rattle.cv_word.specs.declared.registers.Registers.{Registers}
+use Rattle.x64_decode.specs.Spelling.{number, spelling}
+use Rattle.x64_decode.specs.Reading.{instruction_at}
+use Rattle.x64_decode.specs.declared.instr.Reg.{Reg}
+use Rattle.x64_decode.specs.declared.instr.Reg.TheVariants.{Rax, Rdx, Rsp, Gpr10, Gpr11}
+use Rattle.x64_decode.specs.declared.instr.Mem.{Mem}
+use Rattle.x64_decode.specs.declared.instr.Seg.{Seg}
+use Rattle.x64_decode.specs.declared.instr.Seg.TheVariants.{Fs, Gs}
+use Rattle.x64_decode.specs.declared.instr.AluOp.TheVariants as alu
+use Rattle.x64_decode.specs.declared.instr.Instr.{Instr}
+use Rattle.x64_decode.specs.declared.instr.Instr.TheVariants.{Idiv, Mov, AluImm, Load, LoadZx8, LoadSx8, LoadSx32, Store, CmpFlat, JmpR10, CallR10, Jmp, Ud2}
+use Rattle.x64_decode.specs.declared.instr.Instr.TheVariants as instr
+use Rattle.x64_alu.specs.declared.fault.FaultKind.{FaultKind}
+use Rattle.x64_alu.specs.declared.fault.FaultKind.TheVariants as fault
+use Rattle.x64_alu.specs.Memory.{Memory, with_segment, loaded, stored, flat_loaded, flat_stored, is_segment_word}
+use Rattle.x64_alu.specs.CoreStep.{Effect, goes, faults, value, put, flagged, moved_to, alu_result, alu_flags, goes_on, after_division, after_load, load_into, after_store, after_comparison, after_push, calls, target_of, executed, after_fetch, core_step, instruction_in, offset_of}
+use Rattle.magic_words.specs.MagicWords.{call_word, return_word}
+use Rattle.code_sweep.specs.declared.item.Item.{Item}
+use Rattle.code_sweep.specs.declared.item.Item.TheVariants.{Call, Ret, Plain, ReturnUnit, CallUnit}
+use Rattle.code_sweep.specs.declared.item.Placed.{Placed}
+use Rattle.code_sweep.specs.Listing.{item_bytes, IsItem, IsChain, StandsAt, StandsAlone}
+use Rattle.taint_flow.specs.Label.{Label, IsAtMost, taint, left_by, entry_label, return_label}
+use Rattle.taint_flow.specs.Flow.{address, address_after, Labelling, Leads, left_behind, falls_through, instruction_falls, instruction_target, item_target, said_behind, passes_private, returns_private, has_private_address}
+use Rattle.taint_flow.specs.Calls.{call_target, item_calls, callee, is_call, instruction_is_call, bits_called, bits_at}
+use Rattle.conf_verify.specs.declared.rule.Rule.{Rule}
+use Rattle.conf_verify.specs.declared.rule.Rule.TheVariants.{V10, V15, V16}
+use Rattle.conf_verify.specs.Rules.{is_word, is_call_word, may_end, instruction_ends, IsLast, item_breaks}
+use Rattle.x64_machine.specs.declared.outcome.Outcome.{Outcome}
+use Rattle.x64_machine.specs.declared.outcome.Outcome.TheVariants as outcome
+use Rattle.x64_machine.specs.Run.{Core, Configuration, is_running, after_step, step_core, step, run, View, view}
+use Rattle.ni_laws.specs.Agreement.{HasSixteen, EqualUnder, Equal, inside_label, AtItem, InUnit, AtRaise, AtStage, AtGate, Stage, Standing, at_item, at_raise, at_stage, at_gate, check_of, WordStands, CoreAlike, CoresAlike, memory, config, Agree, agree}
+use Rattle.ni_laws.specs.Agreement as at
+use Rattle.ni_laws.proofs.Bytes.{spliced_bytes, four_small}
+use Rattle.ni_laws.proofs.Registers.{equal_below, moved, weaker, stack_put, inside, hidden_flagged, entered, returned}
+use Rattle.ni_laws.proofs.Rows.{Lands, Alike, both_go, both_fault, KeepsRules, row, StoresAlike, both_kept, both_stored, stores}
+use Rattle.ni_laws.proofs.Items.{Facts, Next, next_item, chain_item, good_target, kept, keeps_rules, call_at, return_at, word_length, Callee, procedure, gate, called}
+use Rattle.ni_laws.proofs.Units.{UnitAt, ReturnAt, CallAt, return_parts, call_parts, unit_at, last_of, some_pair}
+use Rattle.ni_laws.proofs.Checks.{StepsAlike, both_step, same_fault, both_fetched, in_unit_moved, in_unit_ten, in_unit_flagged, in_unit_stack, stage_loads, stage_inverts, stage_compares, stage_branches, stage_traps, stage_advances}
+
+-- ---- landing
+
+-- an instruction behind which another is reached neither ends its procedure nor calls
+falls_on : (ins : Instr) → instruction_falls ins ≡ true → (instruction_ends ins ≡ false) × (instruction_is_call ins ≡ false)
+falls_on (Jmp rel) e = absurd (true≢false (sym e))
+falls_on Ud2 e = absurd (true≢false (sym e))
+falls_on (instr.Call rel) e = absurd (true≢false (sym e))
+falls_on _ e = (refl, refl)
+
+-- the cores behind an instruction stand at the start of an item again: at the one behind it ..
+landed_behind : (prefix code : List ℕ) (items : List Placed) (labels : Labelling) → Facts prefix code items labels → (i : ℕ) (p : Placed) (ins : Instr) (s t : Registers) →
+    slice_get items i ≡ Some p → p.item ≡ Plain ins → instruction_falls ins ≡ true → s.pc ≡ address_after p →
+    Equal (left_by ins (labels i)) s t → AtItem items labels s t
+landed_behind prefix code items labels facts i p ins s t stands is falls here e =
+    let on = falls_on ins falls in
+    let next : Next items i p = next_item prefix code items labels facts i p stands (ap may_end is ∙ on.0) (ap is_call is ∙ on.1) in
+    let leads : Leads items i (suc i) = (p, stands, inl (ap falls_through is ∙ falls, refl)) in
+    let below : IsAtMost (left_behind p.item (labels i)) (labels (suc i)) = facts.meets.leads i (suc i) p stands leads in
+    let P : Item → Type 0 = λ item. IsAtMost (left_behind item (labels i)) (labels (suc i)) in
+    record {
+      i = suc i;
+      p = next.q;
+      stands = next.stands;
+      no_word = next.no_word;
+      here = here ∙ sym next.here;
+      equal = weaker (left_by ins (labels i)) (labels (suc i)) s t (subst P is below) e;
+    }
+
+-- .. or at its target
+landed_at : (prefix code : List ℕ) (items : List Placed) (labels : Labelling) → Facts prefix code items labels → (i : ℕ) (p : Placed) (ins : Instr) (s t : Registers) →
+    slice_get items i ≡ Some p → p.item ≡ Plain ins → instruction_target ins (address_after p) ≡ Some s.pc →
+    Equal (left_by ins (labels i)) s t → AtItem items labels s t
+landed_at prefix code items labels facts i p ins s t stands is target e =
+    let jumps = ap (λ item. item_target item (address_after p)) is ∙ target in
+    let good = good_target items i s.pc (λ none. facts.jumps p.at (i, p, s.pc, stands, refl, jumps, none)) in
+    let leads : Leads items i good.0 = (p, stands, inr (good.1, good.2, jumps ∙ ap (λ n. Some n) (sym good.3))) in
+    let below : IsAtMost (left_behind p.item (labels i)) (labels good.0) = facts.meets.leads i good.0 p stands leads in
+    let P : Item → Type 0 = λ item. IsAtMost (left_behind item (labels i)) (labels good.0) in
+    record {
+      i = good.0;
+      p = good.1;
+      stands = good.2;
+      no_word = good.4;
+      here = sym good.3;
+      equal = weaker (left_by ins (labels i)) (labels good.0) s t (subst P is below) e;
+    }
+
+landed : (prefix code : List ℕ) (items : List Placed) (labels : Labelling) → Facts prefix code items labels → (i : ℕ) (p : Placed) (ins : Instr) (s t : Registers) →
+    slice_get items i ≡ Some p → p.item ≡ Plain ins → Lands ins (address_after p) s.pc →
+    Equal (left_by ins (labels i)) s t → AtItem items labels s t
+landed prefix code items labels facts i p ins s t stands is (inl behind) e = landed_behind prefix code items labels facts i p ins s t stands is behind.0 behind.1 e
+landed prefix code items labels facts i p ins s t stands is (inr target) e = landed_at prefix code items labels facts i p ins s t stands is target e
+
+-- a word neither ends a procedure nor calls
+word_goes_on : (item : Item) → is_word item ≡ true → (may_end item ≡ false) × (is_call item ≡ false)
+word_goes_on (Call bits) e = (refl, refl)
+word_goes_on (Ret bit) e = (refl, refl)
+word_goes_on (Plain i) e = absurd (true≢false (sym e))
+word_goes_on (ReturnUnit bit) e = absurd (true≢false (sym e))
+word_goes_on (CallUnit r bits) e = absurd (true≢false (sym e))
+
+-- behind a word the cores stand at an item, with what the word says
+pub landed_word : (prefix code : List ℕ) (items : List Placed) (labels : Labelling) → Facts prefix code items labels → (j : ℕ) (q : Placed) (l : Label) (s t : Registers) →
+    slice_get items j ≡ Some q → is_word q.item ≡ true → said_behind q.item ≡ Some l → s.pc ≡ address_after q → Equal l s t → AtItem items labels s t
+landed_word prefix code items labels facts j q l s t stands word said here e =
+    let on = word_goes_on q.item word in
+    let next : Next items j q = next_item prefix code items labels facts j q stands on.0 on.1 in
+    record {
+      i = suc j;
+      p = next.q;
+      stands = next.stands;
+      no_word = next.no_word;
+      here = here ∙ sym next.here;
+      equal = weaker l (labels (suc j)) s t (facts.meets.words j q l stands said) e;
+    }
+
+-- ---- calls: the push, and where they go
+
+some_where : (test : Bool) (size : ℕ) (code : List ℕ) (m n x y : Option Memory) → StoresAlike size code m n → StoresAlike size code x y → StoresAlike size code (cond test m x) (cond test n y)
+some_where true size code m n x y a b = a
+some_where false size code m n x y a b = b
+
+pushes : (size : ℕ) (code public mine yours : List ℕ) (at v : ℕ) →
+    StoresAlike size code (flat_stored (memory size code public mine) at v) (flat_stored (memory size code public yours) at v)
+unfolding flat_stored
+pushes size code public mine yours at v =
+    some_where _ size code _ _ _ _ (stores Fs size code public mine yours (at - public_base) 8 v v false refl (λ h. refl))
+    (some_where _ size code _ _ _ _ (stores Gs size code public mine yours (at - private_base) 8 v v false refl (λ h. refl)) both_kept)
+
+after_pushes : (prefix code : List ℕ) (items : List Placed) (labels : Labelling) (size target : ℕ) (s t : Registers) (m n : Option Memory) → StoresAlike size code m n →
+    (let s' : Registers = moved_to target (put Rsp (subtracted (value s Rsp) 8) s) in
+    let t' : Registers = moved_to target (put Rsp (subtracted (value t Rsp) 8) t) in Standing prefix code items labels s' t') →
+    StepsAlike prefix code items labels size (after_push m target s) (after_push n target t)
+after_pushes prefix code items labels size target s t m n both_kept standing = same_fault fault.Memory
+after_pushes prefix code items labels size target s t m n (both_stored public mine yours) standing = both_step _ _ public mine yours refl standing
+
+-- the cores behind a push and a jump
+pushed : (l : Label) (s t : Registers) (target : ℕ) → Equal l s t →
+    Equal l (moved_to target (put Rsp (subtracted (value s Rsp) 8) s)) (moved_to target (put Rsp (subtracted (value t Rsp) 8) t))
+pushed l s t target e =
+    moved l (put Rsp (subtracted (value s Rsp) 8) s) (put Rsp (subtracted (value t Rsp) 8) t) target target
+    (stack_put l s t (subtracted (value s Rsp) 8) (subtracted (value t Rsp) 8) (ap (λ v. subtracted v 8) e.stack) e) refl
+
+both_calls : (prefix code : List ℕ) (items : List Placed) (labels : Labelling) (size target next : ℕ) (public mine yours : List ℕ) (l : Label) (s t : Registers) → Equal l s t →
+    Standing prefix code items labels (moved_to target (put Rsp (subtracted (value s Rsp) 8) s)) (moved_to target (put Rsp (subtracted (value t Rsp) 8) t)) →
+    StepsAlike prefix code items labels size (calls target next (memory size code public mine) s) (calls target next (memory size code public yours) t)
+both_calls prefix code items labels size target next public mine yours l s t e standing =
+    let R : ℕ → Type 0 = λ v. StepsAlike prefix code items labels size (calls target next (memory size code public mine) s)
+        (after_push (flat_stored (memory size code public yours) (subtracted v 8) next) target t) in
+    subst R e.stack
+    (after_pushes prefix code items labels size target s t _ _ (pushes size code public mine yours (subtracted (value s Rsp) 8) next) standing)
+
+call_is_word : (items : List Placed) (q : Placed) (bits : ℕ) → q.item ≡ Call bits → (is_word q.item ≡ true) × (said_behind q.item ≡ Some (entry_label bits))
+call_is_word items q bits is = (ap is_word is, ap said_behind is)
+
+-- the cores at what is called: behind a call word, or at a gate
+at_callee : (prefix code : List ℕ) (items : List Placed) (labels : Labelling) → Facts prefix code items labels → (bits target : ℕ) (s t : Registers) → s.pc ≡ target →
+    Equal (entry_label bits) s t → Callee items bits target → Standing prefix code items labels s t
+at_callee prefix code items labels facts bits target s t here e (procedure j q stands is ends) =
+    let w = call_is_word items q bits is in
+    at_item (landed_word prefix code items labels facts j q (entry_label bits) s t stands w.0 w.1 (here ∙ sym ends) e)
+at_callee prefix code items labels facts bits target s t here e (gate number is at) =
+    at_gate (record { number = number; bits = bits; gate = is; here = here ∙ at; equal = e })
+
+-- ---- an instruction
+
+steps_from : (prefix code : List ℕ) (items : List Placed) (labels : Labelling) → Facts prefix code items labels → (i : ℕ) (p : Placed) (ins : Instr) (size : ℕ) (e f : Effect) →
+    slice_get items i ≡ Some p → p.item ≡ Plain ins → KeepsRules ins (labels i) → Alike ins (address_after p) (left_by ins (labels i)) size code e f →
+    StepsAlike prefix code items labels size e f
+steps_from prefix code items labels facts i p ins size e f stands is keeps (both_go s t public mine yours equal lands) =
+    both_step s t public mine yours equal.counters
+    (at_item (landed prefix code items labels facts i p ins s t stands is lands (record { under = equal; stack = equal.registers Rsp keeps.stack })))
+steps_from prefix code items labels facts i p ins size e f stands is keeps (both_fault kind) = same_fault kind
+
+plain_step : (prefix code : List ℕ) (items : List Placed) (labels : Labelling) → Facts prefix code items labels → (size : ℕ) (public mine yours : List ℕ) (s t : Registers) (a : AtItem items labels s t)
+    (ins : Instr) → a.p.item ≡ Plain ins → instruction_is_call ins ≡ false → StandsAt prefix code a.p.at (Plain ins) → a.p.len ≡ length (spelling ins) →
+    StepsAlike prefix code items labels size (core_step (memory size code public mine) s) (core_step (memory size code public yours) t)
+plain_step prefix code items labels facts size public mine yours s t a ins is calls stands long =
+    let keeps = keeps_rules items labels a.i a.p ins a.stands is facts.flow in
+    let next : address_after a.p ≡ code_base + a.p.at + length (spelling ins) = omega (arith, long) in
+    let P : ℕ → Type 0 = λ n. StepsAlike prefix code items labels size (executed ins n (memory size code public mine) s) (executed ins n (memory size code public yours) t) in
+    both_fetched prefix code items labels size public mine yours s t a.p.at ins a.here a.equal.under.counters stands.is.3
+    (subst P next (steps_from prefix code items labels facts a.i a.p ins size _ _ a.stands is keeps
+    (row ins (address_after a.p) (labels a.i) size code public mine yours s t stands.is.4 calls keeps a.equal.under)))
+
+-- ---- a direct call
+
+call_step : (prefix code : List ℕ) (items : List Placed) (labels : Labelling) → Facts prefix code items labels → (size : ℕ) (public mine yours : List ℕ) (s t : Registers) (a : AtItem items labels s t)
+    (rel : ℤ) → a.p.item ≡ Plain (instr.Call rel) → StandsAt prefix code a.p.at (Plain (instr.Call rel)) → a.p.len ≡ length (spelling (instr.Call rel)) →
+    StepsAlike prefix code items labels size (core_step (memory size code public mine) s) (core_step (memory size code public yours) t)
+unfolding executed
+call_step prefix code items labels facts size public mine yours s t a rel is stands long =
+    let after : ℕ = address_after a.p in
+    let target : ℕ = target_of after rel in
+    let names : call_target a.p ≡ Some target = ap (λ item. item_calls item after) is in
+    let through : callee items a.p ≡ bits_at items (call_target a.p) =
+    ap (λ item. bits_called items item after) is ∙ ap (λ item. bits_at items (item_calls item after)) (sym is) in
+    let c = called items a.i target a.p facts.calls a.stands names through in
+    let keeps : passes_private (Some c.0) (labels a.i) ≡ false = ap (λ o. passes_private o (labels a.i)) (sym c.1) ∙ kept items labels a.i a.p V15 a.stands facts.flow in
+    let e : Equal (entry_label c.0) s t = entered c.0 (labels a.i) s t keeps a.equal in
+    let next : after ≡ code_base + a.p.at + length (spelling (instr.Call rel)) = omega (arith, long) in
+    let P : ℕ → Type 0 = λ n. StepsAlike prefix code items labels size (executed (instr.Call rel) n (memory size code public mine) s) (executed (instr.Call rel) n (memory size code public yours) t) in
+    both_fetched prefix code items labels size public mine yours s t a.p.at (instr.Call rel) a.here a.equal.under.counters stands.is.3
+    (subst P next (both_calls prefix code items labels size target after public mine yours (entry_label c.0) s t e
+    (at_callee prefix code items labels facts c.0 target _ _ refl (pushed (entry_label c.0) s t target e) c.2)))
+
+-- ---- the start of a return unit: the address on the stack
+
+small_where : (test : Bool) (n v : ℕ) → n < 2 ^ 32 → cond test (Some n) None ≡ Some v → v < 2 ^ 32
+small_where true n v small e = subst (λ x. x < 2 ^ 32) (same_Some n v e) small
+small_where false n v small e = absurd (none-some v e)
+
+small_load : (size : ℕ) (code public private : List ℕ) (offset v : ℕ) → AreBytes public → loaded (memory size code public private) Fs offset 4 ≡ Some v → v < 2 ^ 32
+unfolding loaded
+small_load size code public private offset v bytes e = small_where (is_mapped size offset 4) (little_endian (take 4 (drop offset public))) v (four_small public offset bytes) e
+
+same_load : (size : ℕ) (code public mine yours : List ℕ) (offset width : ℕ) → loaded (memory size code public mine) Fs offset width ≡ loaded (memory size code public yours) Fs offset width
+unfolding loaded
+same_load size code public mine yours offset width = refl
+
+raise_steps : (prefix code : List ℕ) (items : List Placed) (labels : Labelling) (size : ℕ) (public mine yours : List ℕ) (s t : Registers) (a : AtItem items labels s t) (bit next : ℕ) (o : Option ℕ) →
+    a.p.item ≡ ReturnUnit bit → next ≡ address a.p + 10 → ((v : ℕ) → o ≡ Some v → v < 2 ^ 32) →
+    StepsAlike prefix code items labels size (after_load o (λ v. v) Gpr10 next (memory size code public mine) s) (after_load o (λ v. v) Gpr10 next (memory size code public yours) t)
+raise_steps prefix code items labels size public mine yours s t a bit next None is at small = same_fault fault.Memory
+raise_steps prefix code items labels size public mine yours s t a bit next (Some v) is at small =
+    both_step (moved_to next (put Gpr10 v s)) (moved_to next (put Gpr10 v t)) public mine yours refl
+    (at_raise (record {
+      i = a.i;
+      p = a.p;
+      bit = bit;
+      stands = a.stands;
+      unit = is;
+      here = at;
+      inside = in_unit_moved (labels a.i) (put Gpr10 v s) (put Gpr10 v t) next
+          (in_unit_ten (labels a.i) s t v v (inside (labels a.i) s t a.equal) refl (small v refl));
+    }))
+
+return_start : (prefix code : List ℕ) (items : List Placed) (labels : Labelling) → Facts prefix code items labels → (size : ℕ) (public mine yours : List ℕ) (s t : Registers) (a : AtItem items labels s t) →
+    AreBytes public → (bit : ℕ) → a.p.item ≡ ReturnUnit bit → StandsAt prefix code a.p.at (ReturnUnit bit) →
+    StepsAlike prefix code items labels size (core_step (memory size code public mine) s) (core_step (memory size code public yours) t)
+unfolding executed spelling
+return_start prefix code items labels facts size public mine yours s t a bytes bit is stands =
+    let mem : Mem = record { seg = Fs; base = Rsp; disp = pos 0 } in
+    let parts = return_parts prefix code a.p.at bit facts.six facts.prefix_bytes stands in
+    let next : ℕ = code_base + a.p.at + 10 in
+    let offset : ℕ = offset_of s mem in
+    let same : loaded (memory size code public mine) Fs offset 4 ≡ loaded (memory size code public yours) Fs (offset_of t mem) 4 =
+    same_load size code public mine yours offset 4 ∙ ap (λ v. loaded (memory size code public yours) Fs (operand_offset v (pos 0)) 4) a.equal.stack in
+    let R : Option ℕ → Type 0 = λ o. StepsAlike prefix code items labels size
+        (after_load (loaded (memory size code public mine) Fs offset 4) (λ v. v) Gpr10 next (memory size code public mine) s) (after_load o (λ v. v) Gpr10 next (memory size code public yours) t) in
+    both_fetched prefix code items labels size public mine yours s t a.p.at (Load false Gpr10 mem) a.here a.equal.under.counters parts.first
+    (subst R same (raise_steps prefix code items labels size public mine yours s t a bit next (loaded (memory size code public mine) Fs offset 4) is refl
+    (λ v e. small_load size code public mine offset v bytes e)))
+
+-- ---- .. and the addition to rsp
+
+raise_step : (prefix code : List ℕ) (items : List Placed) (labels : Labelling) → Facts prefix code items labels → (size : ℕ) (public mine yours : List ℕ) (s t : Registers) (a : AtRaise items labels s t) →
+    StandsAt prefix code a.p.at (ReturnUnit a.bit) →
+    StepsAlike prefix code items labels size (core_step (memory size code public mine) s) (core_step (memory size code public yours) t)
+unfolding executed spelling
+raise_step prefix code items labels facts size public mine yours s t a stands =
+    let parts = return_parts prefix code a.p.at a.bit facts.six facts.prefix_bytes stands in
+    let next : ℕ = code_base + (a.p.at + 10) + 7 in
+    let v : ℕ = alu_result alu.Add (value s Rsp) (widened (pos 8)) in
+    let w : ℕ = alu_result alu.Add (value t Rsp) (widened (pos 8)) in
+    let f : Flags = alu_flags alu.Add (value s Rsp) (widened (pos 8)) in
+    let g : Flags = alu_flags alu.Add (value t Rsp) (widened (pos 8)) in
+    let same : v ≡ w = ap (λ x. alu_result alu.Add x (widened (pos 8))) a.inside.equal.stack in
+    both_fetched prefix code items labels size public mine yours s t (a.p.at + 10) (AluImm alu.Add Rsp (pos 8)) (omega (arith, a.here)) a.inside.equal.under.counters parts.second
+    (both_step (moved_to next (put Rsp v (flagged f s))) (moved_to next (put Rsp w (flagged g t))) public mine yours refl
+    (at_stage at.loads (record {
+      i = a.i;
+      p = a.p;
+      start = 17;
+      word = return_word a.bit prefix;
+      stands = a.stands;
+      checks = ap (λ item. check_of prefix item) a.unit;
+      here = omega arith;
+      inside = in_unit_moved (labels a.i) (put Rsp v (flagged f s)) (put Rsp w (flagged g t)) next
+          (in_unit_stack (labels a.i) (flagged f s) (flagged g t) v w same (in_unit_flagged (labels a.i) s t f g a.inside));
+      mine = tt;
+      yours = tt;
+      flags = λ h. absurd (true≢false (sym h));
+    })))
+
+-- ---- the start of a call unit: the low half of the register
+
+call_start : (prefix code : List ℕ) (items : List Placed) (labels : Labelling) → Facts prefix code items labels → (size : ℕ) (public mine yours : List ℕ) (s t : Registers) (a : AtItem items labels s t) →
+    (r : Reg) (bits : ℕ) → a.p.item ≡ CallUnit r bits → StandsAt prefix code a.p.at (CallUnit r bits) →
+    StepsAlike prefix code items labels size (core_step (memory size code public mine) s) (core_step (memory size code public yours) t)
+unfolding executed spelling
+call_start prefix code items labels facts size public mine yours s t a r bits is stands =
+    let parts = call_parts prefix code a.p.at r bits facts.six facts.prefix_bytes stands in
+    let next : ℕ = code_base + a.p.at + 3 in
+    let v : ℕ = value s r % 2 ^ 32 in
+    let w : ℕ = value t r % 2 ^ 32 in
+    let shown : taint (labels a.i) r ≡ false = ap (λ item. has_private_address item (labels a.i)) (sym is) ∙ kept items labels a.i a.p V10 a.stands facts.flow in
+    let same : v ≡ w = ap (λ x. x % 2 ^ 32) (a.equal.under.registers r shown) in
+    let small : v < 2 ^ 32 = omega arith in
+    both_fetched prefix code items labels size public mine yours s t a.p.at (Mov false Gpr10 r) a.here a.equal.under.counters parts.first
+    (both_step (moved_to next (put Gpr10 v s)) (moved_to next (put Gpr10 w t)) public mine yours refl
+    (at_stage at.loads (record {
+      i = a.i;
+      p = a.p;
+      start = 3;
+      word = call_word bits prefix;
+      stands = a.stands;
+      checks = ap (λ item. check_of prefix item) is;
+      here = omega arith;
+      inside = in_unit_moved (labels a.i) (put Gpr10 v s) (put Gpr10 w t) next (in_unit_ten (labels a.i) s t v w (inside (labels a.i) s t a.equal) same small);
+      mine = tt;
+      yours = tt;
+      flags = λ h. absurd (true≢false (sym h));
+    })))
+
+-- ---- the end of a unit: behind the word that was found
+
+-- a unit is of one of two kinds
+kind_of : (prefix : List ℕ) (item : Item) (start : ℕ) (word : List ℕ) → check_of prefix item ≡ Some (start, word) →
+    ((bit : ℕ) × (item ≡ ReturnUnit bit) × (word ≡ return_word bit prefix) × (last_of item ≡ JmpR10))
+    ⊎ ((r : Reg) × (bits : ℕ) × (item ≡ CallUnit r bits) × (word ≡ call_word bits prefix) × (last_of item ≡ CallR10))
+kind_of prefix (Call bits) start word e = absurd (none-some (start, word) e)
+kind_of prefix (Ret bit) start word e = absurd (none-some (start, word) e)
+kind_of prefix (Plain i) start word e = absurd (none-some (start, word) e)
+kind_of prefix (ReturnUnit bit) start word e = inl (bit, refl, sym (some_pair 17 start (return_word bit prefix) word e).1, refl)
+kind_of prefix (CallUnit r bits) start word e = inr (r, bits, refl, sym (some_pair 3 start (call_word bits prefix) word e).1, refl)
+
+-- behind the word that stands at an address
+behind_word : (place at : ℕ) (q : Placed) → at ≡ code_base + place → q.at ≡ place → q.len ≡ 8 → at + 8 ≡ address_after q
+behind_word place at q here there long = omega arith
+
+return_leaves : (prefix code : List ℕ) (items : List Placed) (labels : Labelling) → Facts prefix code items labels → (size : ℕ) (public mine yours : List ℕ) (s t : Registers)
+    (a : AtStage prefix code items labels at.leaves s t) → UnitAt prefix code a.p.at a.p.item a.start a.word → (bit : ℕ) → a.p.item ≡ ReturnUnit bit → a.word ≡ return_word bit prefix →
+    last_of a.p.item ≡ JmpR10 → bit < 2 →
+    StepsAlike prefix code items labels size (core_step (memory size code public mine) s) (core_step (memory size code public yours) t)
+unfolding executed
+return_leaves prefix code items labels facts size public mine yours s t a u bit is word last small =
+    let w = a.mine.1.2 in
+    let found = return_at prefix code items labels facts w.place bit (w.stands ∙ word) in
+    let is_word_item : is_word found.q.item ≡ true = ap is_word found.is in
+    let long = word_length prefix code items labels facts found.j found.q found.stands is_word_item in
+    let keeps : returns_private (ReturnUnit bit) (inside_label (labels a.i)) ≡ false =
+    ap (λ item. returns_private item (labels a.i)) (sym is) ∙ kept items labels a.i a.p V16 a.stands facts.flow in
+    let e : Equal (return_label bit) s t = returned bit (inside_label (labels a.i)) s t small keeps a.inside.equal in
+    let goal_pc : value s Gpr10 ≡ address_after found.q = a.mine.1.1 ∙ behind_word w.place a.mine.1.0 found.q w.here found.at long in
+    both_fetched prefix code items labels size public mine yours s t (a.p.at + a.start + 36) JmpR10 (omega (arith, a.here)) a.inside.equal.under.counters (u.check.leaves ∙ ap (λ i. Some i) last)
+    (both_step (moved_to (value s Gpr10) s) (moved_to (value t Gpr10) t) public mine yours a.inside.checked
+    (at_item (landed_word prefix code items labels facts found.j found.q (return_label bit) _ _ found.stands is_word_item (ap said_behind found.is) goal_pc
+    (moved (return_label bit) s t (value s Gpr10) (value t Gpr10) e a.inside.checked))))
+
+call_leaves : (prefix code : List ℕ) (items : List Placed) (labels : Labelling) → Facts prefix code items labels → (size : ℕ) (public mine yours : List ℕ) (s t : Registers)
+    (a : AtStage prefix code items labels at.leaves s t) → UnitAt prefix code a.p.at a.p.item a.start a.word → (r : Reg) (bits : ℕ) → a.p.item ≡ CallUnit r bits → a.word ≡ call_word bits prefix →
+    last_of a.p.item ≡ CallR10 →
+    StepsAlike prefix code items labels size (core_step (memory size code public mine) s) (core_step (memory size code public yours) t)
+unfolding executed
+call_leaves prefix code items labels facts size public mine yours s t a u r bits is word last =
+    let w = a.mine.1.2 in
+    let found = call_at prefix code items labels facts w.place bits (w.stands ∙ word) in
+    let is_word_item : is_word found.q.item ≡ true = ap is_word found.is in
+    let long = word_length prefix code items labels facts found.j found.q found.stands is_word_item in
+    let calls_it : callee items a.p ≡ Some bits = ap (λ item. bits_called items item (address_after a.p)) is in
+    let keeps : passes_private (Some bits) (inside_label (labels a.i)) ≡ false =
+    ap (λ o. passes_private o (labels a.i)) (sym calls_it) ∙ kept items labels a.i a.p V15 a.stands facts.flow in
+    let e : Equal (entry_label bits) s t = entered bits (inside_label (labels a.i)) s t keeps a.inside.equal in
+    let target : ℕ = value s Gpr10 in
+    let next : ℕ = code_base + (a.p.at + a.start + 36) + length (spelling CallR10) in
+    let goal_pc : target ≡ address_after found.q = a.mine.1.1 ∙ behind_word w.place a.mine.1.0 found.q w.here found.at long in
+    let R : ℕ → Type 0 = λ x. StepsAlike prefix code items labels size (calls target next (memory size code public mine) s) (calls x next (memory size code public yours) t) in
+    both_fetched prefix code items labels size public mine yours s t (a.p.at + a.start + 36) CallR10 (omega (arith, a.here)) a.inside.equal.under.counters (u.check.leaves ∙ ap (λ i. Some i) last)
+    (subst R a.inside.checked (both_calls prefix code items labels size target next public mine yours (entry_label bits) s t e
+    (at_item (landed_word prefix code items labels facts found.j found.q (entry_label bits) _ _ found.stands is_word_item (ap said_behind found.is) goal_pc
+    (pushed (entry_label bits) s t target e)))))
+
+stage_leaves : (prefix code : List ℕ) (items : List Placed) (labels : Labelling) → Facts prefix code items labels → (size : ℕ) (public mine yours : List ℕ) (s t : Registers)
+    (a : AtStage prefix code items labels at.leaves s t) → UnitAt prefix code a.p.at a.p.item a.start a.word → StandsAt prefix code a.p.at a.p.item →
+    StepsAlike prefix code items labels size (core_step (memory size code public mine) s) (core_step (memory size code public yours) t)
+stage_leaves prefix code items labels facts size public mine yours s t a u stands =
+    elim (kind_of prefix a.p.item a.start a.word a.checks) [
+      | inl k ↦
+          let P : Item → Type 0 = λ item. StandsAt prefix code a.p.at item in
+          let parts = return_parts prefix code a.p.at k.0 facts.six facts.prefix_bytes (subst P k.1 stands) in
+          return_leaves prefix code items labels facts size public mine yours s t a u k.0 k.1 k.2 k.3 parts.small
+      | inr k ↦ call_leaves prefix code items labels facts size public mine yours s t a u k.0 k.1 k.2 k.3 k.4
+    ]
+
+-- ---- at a gate
+
+gate_low : (number bits : ℕ) → gate_bits number ≡ Some bits → gate_address number < code_base
+gate_low number bits e = let h : number < length gate_table = slice_get_within gate_table number bits e in omega arith
+
+outside : (size : ℕ) (code public private : List ℕ) (s : Registers) → s.pc < code_base → core_step (memory size code public private) s ≡ faults fault.Memory
+unfolding core_step
+outside size code public private s low =
+    let P : Bool → Type 0 = λ b. cond b (after_fetch (instruction_in code s.pc) (memory size code public private) s) (faults fault.Memory) ≡ faults fault.Memory in
+    let not_in : is_in_code (length code) s.pc ≡ false = and_left _ _ (lt-leb code_base s.pc low) in
+    subst P (sym not_in) refl
+
+gate_step : (prefix code : List ℕ) (items : List Placed) (labels : Labelling) (size : ℕ) (public mine yours : List ℕ) (s t : Registers) → AtGate s t →
+    StepsAlike prefix code items labels size (core_step (memory size code public mine) s) (core_step (memory size code public yours) t)
+gate_step prefix code items labels size public mine yours s t a =
+    let low : gate_address a.number < code_base = gate_low a.number a.bits a.gate in
+    let mine_low : s.pc < code_base = subst (λ x. x < code_base) (sym a.here) low in
+    let yours_low : t.pc < code_base = subst (λ x. x < code_base) a.equal.under.counters mine_low in
+    let Q : Effect → Type 0 = λ x. StepsAlike prefix code items labels size x (core_step (memory size code public yours) t) in
+    let R : Effect → Type 0 = λ y. StepsAlike prefix code items labels size (faults fault.Memory) y in
+    subst Q (sym (outside size code public mine s mine_low)) (subst R (sym (outside size code public yours t yours_low)) (same_fault fault.Memory))
+
+-- ---- one step of two cores that stand alike
+
+call_or_not : (ins : Instr) → ((rel : ℤ) × (ins ≡ instr.Call rel)) ⊎ (instruction_is_call ins ≡ false)
+call_or_not (instr.Call rel) = inl (rel, refl)
+call_or_not _ = inr refl
+
+item_step : (prefix code : List ℕ) (items : List Placed) (labels : Labelling) → Facts prefix code items labels → (size : ℕ) (public mine yours : List ℕ) (s t : Registers) (a : AtItem items labels s t) →
+    AreBytes public → (item : Item) → a.p.item ≡ item → is_word item ≡ false → StandsAt prefix code a.p.at item → a.p.len ≡ length (item_bytes prefix item) →
+    StepsAlike prefix code items labels size (core_step (memory size code public mine) s) (core_step (memory size code public yours) t)
+unfolding item_bytes
+item_step prefix code items labels facts size public mine yours s t a bytes (Call bits) is no_word stands long = absurd (true≢false no_word)
+item_step prefix code items labels facts size public mine yours s t a bytes (Ret bit) is no_word stands long = absurd (true≢false no_word)
+item_step prefix code items labels facts size public mine yours s t a bytes (Plain ins) is no_word stands long =
+    elim (call_or_not ins) [
+      | inl c ↦
+          let same : Plain ins ≡ Plain (instr.Call c.0) = ap Plain c.1 in
+          call_step prefix code items labels facts size public mine yours s t a c.0 (is ∙ same) (subst (λ (x : Item). StandsAt prefix code a.p.at x) same stands)
+          (long ∙ ap (λ x. length (spelling x)) c.1)
+      | inr n ↦ plain_step prefix code items labels facts size public mine yours s t a ins is n stands long
+    ]
+item_step prefix code items labels facts size public mine yours s t a bytes (ReturnUnit bit) is no_word stands long =
+    return_start prefix code items labels facts size public mine yours s t a bytes bit is stands
+item_step prefix code items labels facts size public mine yours s t a bytes (CallUnit r bits) is no_word stands long =
+    call_start prefix code items labels facts size public mine yours s t a r bits is stands
+
+stage_step : (prefix code : List ℕ) (items : List Placed) (labels : Labelling) → Facts prefix code items labels → (size : ℕ) (public mine yours : List ℕ) (s t : Registers) (stage : Stage)
+    (a : AtStage prefix code items labels stage s t) → UnitAt prefix code a.p.at a.p.item a.start a.word → StandsAt prefix code a.p.at a.p.item →
+    StepsAlike prefix code items labels size (core_step (memory size code public mine) s) (core_step (memory size code public yours) t)
+stage_step prefix code items labels facts size public mine yours s t at.loads a u stands = stage_loads prefix code items labels size public mine yours s t a u
+stage_step prefix code items labels facts size public mine yours s t at.inverts a u stands = stage_inverts prefix code items labels size public mine yours s t a u
+stage_step prefix code items labels facts size public mine yours s t at.compares a u stands = stage_compares prefix code items labels size public mine yours s t a u facts.code_bytes
+stage_step prefix code items labels facts size public mine yours s t at.branches a u stands = stage_branches prefix code items labels size public mine yours s t a u facts.limit
+stage_step prefix code items labels facts size public mine yours s t at.traps a u stands = stage_traps prefix code items labels size public mine yours s t a u
+stage_step prefix code items labels facts size public mine yours s t at.advances a u stands = stage_advances prefix code items labels size public mine yours s t a u facts.limit
+stage_step prefix code items labels facts size public mine yours s t at.leaves a u stands = stage_leaves prefix code items labels facts size public mine yours s t a u stands
+
+pub cores_step : (prefix code : List ℕ) (items : List Placed) (labels : Labelling) → Facts prefix code items labels → (size : ℕ) (public mine yours : List ℕ) (s t : Registers) → AreBytes public →
+    Standing prefix code items labels s t →
+    StepsAlike prefix code items labels size (core_step (memory size code public mine) s) (core_step (memory size code public yours) t)
+cores_step prefix code items labels facts size public mine yours s t bytes (at_item a) =
+    let p = chain_item prefix code items 0 (length code) a.i a.p facts.listing a.stands in
+    item_step prefix code items labels facts size public mine yours s t a bytes a.p.item refl a.no_word p.0 p.1
+cores_step prefix code items labels facts size public mine yours s t bytes (at_raise a) =
+    let p = chain_item prefix code items 0 (length code) a.i a.p facts.listing a.stands in
+    let P : Item → Type 0 = λ item. StandsAt prefix code a.p.at item in
+    raise_step prefix code items labels facts size public mine yours s t a (subst P a.unit p.0)
+cores_step prefix code items labels facts size public mine yours s t bytes (at_stage stage a) =
+    let p = chain_item prefix code items 0 (length code) a.i a.p facts.listing a.stands in
+    stage_step prefix code items labels facts size public mine yours s t stage a
+    (unit_at prefix code a.p.at a.p.item a.start a.word facts.six facts.prefix_bytes p.0 a.checks) p.0
+cores_step prefix code items labels facts size public mine yours s t bytes (at_gate a) = gate_step prefix code items labels size public mine yours s t a
