@@ -70,7 +70,7 @@ fn half_move(src: Reg) -> Option<(Item, u8)> {
 }
 
 /// A code, a place in it and the item there.
-static ITEMS: [(&[u8], usize, Option<(Item, u8)>); 18] = [
+static ITEMS: [(&[u8], usize, Option<(Item, u8)>); 19] = [
     (
         b"\x1f\x11\xa1\xa2\xa3\xa4\xa5\xa6",
         0,
@@ -82,13 +82,22 @@ static ITEMS: [(&[u8], usize, Option<(Item, u8)>); 18] = [
         Some((Item::Call(0), 8)),
     ),
     (b"\x20\x11\xa1\xa2\xa3\xa4\xa5\xa6", 0, None),
-    (b"\x01\x22\xa1\xa2\xa3\xa4\xa5\xa6", 0, None),
+    (
+        b"\x01\x22\xa1\xa2\xa3\xa4\xa5\xa6",
+        0,
+        Some((Item::Ret(1), 8)),
+    ),
+    (b"\x02\x22\xa1\xa2\xa3\xa4\xa5\xa6", 0, None),
     (
         b"\x90\x1f\x11\xa1\xa2\xa3\xa4\xa5\xa6",
         0,
         Some((Item::Plain(Instr::Nop), 1)),
     ),
-    (b"\x90\x1f\x11\xa1\xa2\xa3\xa4\xa5\xa6", 1, None),
+    (
+        b"\x90\x1f\x11\xa1\xa2\xa3\xa4\xa5\xa6",
+        1,
+        Some((Item::Call(31), 8)),
+    ),
     (b"\x90\x0f\x0b", 1, Some((Item::Plain(Instr::Ud2), 2))),
     (b"\x90\x0f\x0b", 2, None),
     (b"\x90\x0f\x0b", 3, None),
@@ -101,7 +110,11 @@ static ITEMS: [(&[u8], usize, Option<(Item, u8)>); 18] = [
         Some((Item::Plain(Instr::Jmp { rel: i32::MIN }), 5)),
     ),
     (b"\xe9\x00\x00\x00", 0, None),
-    (b"\xe8\x00\x00\x00\x00", 0, None),
+    (
+        b"\xe8\x00\x00\x00\x00",
+        0,
+        Some((Item::Plain(Instr::Call { rel: 0 }), 5)),
+    ),
     (b"\x67\x4d\x3b\x9a\x00\x00\x00\x00", 0, None),
     (b"\x41\xff\xe2", 0, None),
     (b"\x41\xff\xd2", 0, None),
@@ -115,11 +128,14 @@ fn items_at_places(rt: HostRuntime) {
 }
 
 #[test]
-fn a_return_unit_is_no_item(rt: HostRuntime) {
-    assert_eq!(rt; item_at(&RETURN, 0, PREFIX), None);
+fn a_return_unit_is_one_item(rt: HostRuntime) {
+    assert_eq!(rt;
+        item_at(&RETURN, 0, PREFIX),
+        Some((Item::ReturnUnit(0), 56))
+    );
     let mut other = RETURN;
     other[19] = 0xfe;
-    assert_eq!(rt; item_at(&other, 0, PREFIX), None);
+    assert_eq!(rt; item_at(&other, 0, PREFIX), Some((Item::ReturnUnit(1), 56)));
     other[19] = 0xfd;
     assert_eq!(rt; item_at(&other, 0, PREFIX), stack_load(0));
     assert_eq!(rt; item_at(&RETURN[..55], 0, PREFIX), stack_load(0));
@@ -148,17 +164,18 @@ fn a_changed_return_unit(rt: HostRuntime) {
 }
 
 #[test]
-fn a_call_unit_is_no_item(rt: HostRuntime) {
+fn a_call_unit_is_one_item(rt: HostRuntime) {
     for number in 0..16u8 {
         for bits in 0..33u8 {
             let mut unit = CALL;
             unit[0] = 0x41 + number / 8 * 4;
             unit[2] = 0xc2 + number % 8 * 8;
             unit[5] = 255 - bits;
+            let r = REGISTERS[number as usize];
             let wanted = if bits < 32 {
-                None
+                Some((Item::CallUnit(r, bits), 42))
             } else {
-                half_move(REGISTERS[number as usize])
+                half_move(r)
             };
             assert_eq!(rt; item_at(&unit, 0, PREFIX), wanted, "{number} {bits}");
         }
@@ -178,7 +195,58 @@ fn a_changed_call_unit(rt: HostRuntime) {
 }
 
 /// A code and its items.
-static CHAINS: [(&[u8], &[Placed]); 4] = [
+static CHAINS: [(&[u8], &[Placed]); 7] = [
+    (
+        b"\x0f\x11\xa1\xa2\xa3\xa4\xa5\xa6\xe8\x00\x00\x00\x00\x01\x22\xa1\xa2\xa3\xa4\xa5\xa6\x0f\x0b\x00\x11\xa1\xa2\xa3\xa4\xa5\xa6\x90",
+        &[
+            Placed {
+                at: 0,
+                len: 8,
+                item: Item::Call(15),
+            },
+            Placed {
+                at: 8,
+                len: 5,
+                item: Item::Plain(Instr::Call { rel: 0 }),
+            },
+            Placed {
+                at: 13,
+                len: 8,
+                item: Item::Ret(1),
+            },
+            Placed {
+                at: 21,
+                len: 2,
+                item: Item::Plain(Instr::Ud2),
+            },
+            Placed {
+                at: 23,
+                len: 8,
+                item: Item::Call(0),
+            },
+            Placed {
+                at: 31,
+                len: 1,
+                item: Item::Plain(Instr::Nop),
+            },
+        ],
+    ),
+    (
+        &RETURN,
+        &[Placed {
+            at: 0,
+            len: 56,
+            item: Item::ReturnUnit(0),
+        }],
+    ),
+    (
+        &CALL,
+        &[Placed {
+            at: 0,
+            len: 42,
+            item: Item::CallUnit(Reg::Rax, 0),
+        }],
+    ),
     (b"", &[]),
     (
         b"\x90",
@@ -249,25 +317,21 @@ fn sweeps_to_the_end(rt: HostRuntime) -> Result<(), Fail> {
 }
 
 /// A code and the place where its chain breaks.
-static BREAKS: [(&[u8], u32); 15] = [
+static BREAKS: [(&[u8], u32); 11] = [
     (b"\x00", 0),
     (b"\x90\x0f", 1),
     (b"\x90\x0f\x0b\xe9\x00\x00\x00", 3),
     (b"\x0f\x11\xa1\xa2\xa3\xa4\xa5", 0),
     (b"\x0f\x11\xa1\xa2\xa3\xa4\xa5\xa7", 0),
-    (b"\x90\x0f\x11\xa1\xa2\xa3\xa4\xa5\xa6", 1),
+    (b"\x90\x11\xa1\xa2\xa3\xa4\xa5\xa6", 1),
     (
-        b"\x0f\x11\xa1\xa2\xa3\xa4\xa5\xa6\x0f\x0b\x0f\x11\xa1\xa2\xa3\xa4\xa5\xa6",
+        b"\x0f\x11\xa1\xa2\xa3\xa4\xa5\xa6\x0f\x0b\x20\x11\xa1\xa2\xa3\xa4\xa5\xa6",
         10,
     ),
-    (b"\x90\x11\xa1\xa2\xa3\xa4\xa5\xa6", 1),
-    (b"\x00\x22\xa1\xa2\xa3\xa4\xa5\xa6", 0),
-    (b"\x90\xe8\x00\x00\x00\x00", 1),
+    (b"\x90\xe8\x00\x00\x00", 1),
     (b"\x90\x90\x67\x4d\x3b\x9a\x00\x00\x00\x00", 2),
     (b"\x48\x99\x41\xff\xe2", 2),
     (b"\x48\x99\x41\xff\xd2", 2),
-    (&RETURN, 0),
-    (&CALL, 0),
 ];
 
 #[test]

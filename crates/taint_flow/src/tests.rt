@@ -1,7 +1,8 @@
+use crate::calls::callee;
 use crate::flow::label_code;
 use crate::label::{
     Label, branches_on_private, divides_private, entry_label, has_private_address,
-    leaves_private_stack, left_by, stores_private,
+    leaves_private_stack, left_by, passes_private, return_label, returns_private, stores_private,
 };
 use crate::places::item_numbers;
 use code_sweep::{Item, Listing, Placed};
@@ -264,38 +265,129 @@ fn other_rows(rt: HostRuntime) {
 }
 
 #[test]
-fn entries(rt: HostRuntime) {
+fn words(rt: HostRuntime) {
     assert_eq!(rt; entry_label(0).bits, 0x1_ff29);
     assert_eq!(rt; entry_label(1).bits, 0x1_ffa9);
     assert_eq!(rt; entry_label(8).bits, 0x1_ff2b);
     assert_eq!(rt; entry_label(31).bits, 0x1_ffef);
+    assert_eq!(rt; return_label(0).bits, 0x1_ffee);
+    assert_eq!(rt; return_label(1).bits, 0x1_ffef);
 }
 
 #[test]
 fn rules(rt: HostRuntime) {
-    let load = Instr::Load {
+    let load = Item::Plain(Instr::Load {
         wide: true,
         dst: Reg::Rsp,
         mem: memory(Seg::Gs),
-    };
-    let store = Instr::Store {
+    });
+    let store = Item::Plain(Instr::Store {
         width: Width::B1,
         mem: memory(Seg::Fs),
         src: Reg::Rcx,
-    };
-    let jump = Instr::Jcc {
+    });
+    let jump = Item::Plain(Instr::Jcc {
         cc: Cond::L,
         rel: 0,
-    };
-    let division = Instr::Idiv { r: Reg::Rcx };
-    let rbx = Label { bits: 0x8 };
-    let rcx = Label { bits: 0x2 };
+    });
+    let division = Item::Plain(Instr::Idiv { r: Reg::Rcx });
+    let unit = Item::ReturnUnit(0);
+    let call = Item::CallUnit(Reg::Rbx, 0);
+    let [rax, rcx, rbx, rsp] = [0x1, 0x2, 0x8, 0x10].map(|bits| Label { bits });
     let flags = Label { bits: 0x1_0000 };
     assert!(rt; has_private_address(&load, rbx) && !has_private_address(&load, rcx));
+    assert!(rt; has_private_address(&unit, rsp) && !has_private_address(&unit, rbx));
+    assert!(rt; has_private_address(&call, rbx) && !has_private_address(&call, rsp));
     assert!(rt; stores_private(&store, rcx) && !stores_private(&store, rbx));
     assert!(rt; branches_on_private(&jump, flags) && !branches_on_private(&jump, rcx));
     assert!(rt; divides_private(&division, rcx) && !divides_private(&division, rbx));
     assert!(rt; leaves_private_stack(&load, rcx) && !leaves_private_stack(&store, rcx));
+    assert!(rt; leaves_private_stack(&store, rsp) && !leaves_private_stack(&unit, rsp));
+    assert!(rt; returns_private(&unit, rax) && !returns_private(&Item::ReturnUnit(1), rax));
+}
+
+/// The bits of what is called, what may be private, and whether that is too much.
+#[test]
+fn arguments(rt: HostRuntime) {
+    let cases: [(Option<u8>, u32, bool); 9] = [
+        (None, 0x1_ffff, false),
+        (Some(0x1f), 0x1_ffff, false),
+        (Some(0x0e), 0x80, true),
+        (Some(0x0d), 0x40, true),
+        (Some(0x0b), 0x4, true),
+        (Some(0x07), 0x2, true),
+        (Some(0x0e), 0x46, false),
+        (Some(0), 0x1_ff39, false),
+        (Some(0), 0, false),
+    ];
+    for (called, bits, wanted) in cases {
+        assert_eq!(rt;
+            passes_private(called, Label { bits }),
+            wanted,
+            "{called:?} {bits}"
+        );
+    }
+}
+
+/// A call at place 8, a return word behind it, UD2, and a procedure with bits 5 at place 23: what the call names.
+#[test]
+fn callees(rt: HostRuntime) -> Result<(), Fail> {
+    let cases: [(i32, Option<u8>); 10] = [
+        (18, Some(5)),
+        (-5, Some(15)),
+        (10, None),
+        (17, None),
+        (-0xf00d, Some(0x0e)),
+        (-0xf00d + 16 * 6, Some(0x1f)),
+        (-0xf00d + 16 * 12, Some(0)),
+        (-0xf00d + 16 * 13, None),
+        (-0xf00d + 1, None),
+        (-0xf00d - 16, None),
+    ];
+    for (rel, wanted) in cases {
+        let call = Placed {
+            at: 8,
+            len: 5,
+            item: Item::Plain(Instr::Call { rel }),
+        };
+        let items = vec![in rt.alloc();
+            Placed {
+                at: 0,
+                len: 8,
+                item: Item::Call(15)
+            },
+            call,
+            Placed {
+                at: 13,
+                len: 8,
+                item: Item::Ret(0)
+            },
+            Placed {
+                at: 21,
+                len: 2,
+                item: Item::Plain(Instr::Ud2)
+            },
+            Placed {
+                at: 23,
+                len: 8,
+                item: Item::Call(5)
+            },
+            Placed {
+                at: 31,
+                len: 2,
+                item: Item::Plain(Instr::Ud2)
+            },
+        ]?;
+        let code = [0x90u8; 33];
+        let listing = Listing { code: &code, items };
+        let numbers = item_numbers(rt.alloc(), &listing)?;
+        let called = callee(listing.items.as_slice(), &numbers, &call);
+        assert_eq!(rt; called, wanted, "{rel}");
+        let labels = label_code(rt.alloc(), &listing)?;
+        assert_eq!(rt; labels.get(1).bits, 0x1_ffef);
+        assert_eq!(rt; labels.get(3).bits, 0x1_ffee);
+    }
+    Ok(())
 }
 
 /// `40b800000000 4881f800000000 0f8408000000 4889f8 e9ebffffff 0f0b` behind a call word: rax is set to 0, and in a loop
