@@ -16,10 +16,12 @@ label_same labels i l e = ap (λ (x : LabelBits). label_of x.bits) (get_or_from_
 
 pub bad_here : (items : List Placed) (labels : List LabelBits) (i : ℕ) (d : Placed) (called : Option ℕ) (l : LabelBits) (rule : Rule) → i < length items → slice_get labels i ≡ Some l →
     called ≡ callee items (get_or items i d) → item_breaks rule called (get_or items i d).item (label_of l.bits) ≡ true → BadLabel items (labelling_of labels) rule i
-bad_here items labels i d called l rule inside e calls bad =
-    (get_or items i d, slice_get-get_or items i d inside,
-    ap (λ (m : Label). item_breaks rule (callee items (get_or items i d)) (get_or items i d).item m) (label_same labels i l e)
-    ∙ ap (λ (o : Option ℕ). item_breaks rule o (get_or items i d).item (label_of l.bits)) (sym calls) ∙ bad)
+bad_here items labels i d called l rule inside e calls bad = (
+  get_or items i d,
+  slice_get-get_or items i d inside,
+  ap (λ (m : Label). item_breaks rule (callee items (get_or items i d)) (get_or items i d).item m) (label_same labels i l e)
+      ∙ ap (λ (o : Option ℕ). item_breaks rule o (get_or items i d).item (label_of l.bits)) (sym calls) ∙ bad,
+)
 
 some_same : {A : Type 0} (x y : A) → (let o : Option A = Some x in o) ≡ Some y → x ≡ y
 some_same x y e = cc

@@ -61,8 +61,7 @@ pub target_yes : (items : List Placed) (number : ℕ → Option ℕ) (procedures
 target_yes items number procedures i target j d n p low e inside word same =
     let f = n.only (target - code_base) j (sym e) in
     let here = get_or_from_slice_get items j f.0 d f.1 in
-    let within : j < length items = slice_get_within items j f.0 f.1 in
-    (
+    let within : j < length items = slice_get_within items j f.0 f.1 in (
       j,
       get_or items j d,
       slice_get-get_or items j d within,

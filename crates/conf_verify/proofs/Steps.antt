@@ -154,8 +154,13 @@ none_by_item image items rule Bad by none place b = let f = by.from place b in n
 
 pub by_ends : (image : Image) (items : List Placed) → ByItem image items V3 (BadEnd items)
 by_ends image items = record {
-  to = λ i p e bad. (i, p, e, refl,
-      subst (λ (x : Placed). ((i ≡ 0) × (is_call_word x.item ≡ false)) ⊎ (IsLast items i × (may_end x.item ≡ false))) (some_same bad.0 p (sym bad.1 ∙ e)) bad.2);
+  to = λ i p e bad. (
+    i,
+    p,
+    e,
+    refl,
+    subst (λ (x : Placed). ((i ≡ 0) × (is_call_word x.item ≡ false)) ⊎ (IsLast items i × (may_end x.item ≡ false))) (some_same bad.0 p (sym bad.1 ∙ e)) bad.2,
+  );
   from = λ place b. (b.0, b.1, b.2, b.3, (b.1, b.2, b.4));
 }
 

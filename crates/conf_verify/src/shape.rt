@@ -153,12 +153,7 @@ fn is_good_target(
     !is_word(&q.item) && procedures[j] == procedures[i]
 }
 
-fn is_bad_jump(
-    items: &[Placed],
-    numbers: &ItemNumbers,
-    procedures: &[u32],
-    i: usize,
-) -> bool
+fn is_bad_jump(items: &[Placed], numbers: &ItemNumbers, procedures: &[u32], i: usize) -> bool
     requires numbers { NumbersItems items.now (number_at numbers.now) }
     requires procedures { AreProcedures items.now procedures.now }
     requires inside { i < length items.now }

@@ -94,16 +94,16 @@ fn image(alloc: Global, prefix: &[u8; 6], code: &[u8]) -> Result<Vec<u8>, NoMemo
     Ok(bytes)
 }
 
-/// A code under the prefix of the small image, and what it breaks.
-const CODES: [(&[u8], Option<Rule>, u64); 17] = [
+/// A code under the prefix of the small image, and what it breaks by `tools/verdicts.py`.
+const CODES: [(&[u8], Option<Rule>, u64); 31] = [
     (
         b"\x0f\x11\xa1\xa2\xa3\xa4\xa5\xa6\x90\x0f\x11\xa1\xa2\xa3\xa4\xa5\xa6\x0f\x0b",
-        Some(Rule::V2),
-        0x10009,
+        Some(Rule::V3),
+        0x10008,
     ),
     (
         b"\x0f\x11\xa1\xa2\xa3\xa4\xa5\xa6\xe8\x00\x00\x00\x00\x0f\x0b",
-        Some(Rule::V2),
+        Some(Rule::V5),
         0x10008,
     ),
     (
@@ -169,6 +169,371 @@ const CODES: [(&[u8], Option<Rule>, u64); 17] = [
         Some(Rule::V13),
         0x10014,
     ),
+    (
+        b"\x0f\x11\xa1\xa2\xa3\xa4\xa5\xa6\xe8\xfb\xff\xff\xff\x0f\x0b",
+        Some(Rule::V5),
+        0x10008,
+    ),
+    (
+        b"\x0f\x11\xa1\xa2\xa3\xa4\xa5\xa6\xe8\x00\x00\x00\x00\x00\x22\xa1\xa2\xa3\xa4\xa5\xa6\x0f\x0b",
+        Some(Rule::V7),
+        0x10008,
+    ),
+    (
+        b"\x1f\x11\xa1\xa2\xa3\xa4\xa5\xa6\x64\x67\x44\x8b\x94\x24\x00\x00\x00\x00\x48\x81\xc4\x08\x00\x00\x00\x49\xbb\xff\xdd\x5e\x5d\x5c\x5b\x5a\x59\x49\xf7\xd3\x67\x4d\x3b\x9a\x00\x00\x00\x00\x0f\x84\x02\x00\x00\x00\x0f\x0b\x49\x81\xc2\x08\x00\x00\x00\x41\xff\xe2",
+        Some(Rule::V8),
+        0x10008,
+    ),
+    (
+        b"\x0f\x11\xa1\xa2\xa3\xa4\xa5\xa6\xe8\x12\x00\x00\x00\x00\x22\xa1\xa2\xa3\xa4\xa5\xa6\x0f\x0b\x0e\x11\xa1\xa2\xa3\xa4\xa5\xa6\x0f\x0b",
+        Some(Rule::V15),
+        0x10008,
+    ),
+    (
+        b"\x0f\x11\xa1\xa2\xa3\xa4\xa5\xa6\x64\x67\x44\x8b\x94\x24\x00\x00\x00\x00\x48\x81\xc4\x08\x00\x00\x00\x49\xbb\xff\xdd\x5e\x5d\x5c\x5b\x5a\x59\x49\xf7\xd3\x67\x4d\x3b\x9a\x00\x00\x00\x00\x0f\x84\x02\x00\x00\x00\x0f\x0b\x49\x81\xc2\x08\x00\x00\x00\x41\xff\xe2",
+        Some(Rule::V16),
+        0x10008,
+    ),
+    (
+        b"\x0f\x11\xa1\xa2\xa3\xa4\xa5\xa6\x40\xb8\x42\x00\x01\x00\x41\x89\xc2\x49\xbb\xf0\xee\x5e\x5d\x5c\x5b\x5a\x59\x49\xf7\xd3\x67\x4d\x3b\x9a\x00\x00\x00\x00\x0f\x84\x02\x00\x00\x00\x0f\x0b\x49\x81\xc2\x08\x00\x00\x00\x41\xff\xd2\x00\x22\xa1\xa2\xa3\xa4\xa5\xa6\x0f\x0b\x0f\x11\xa1\xa2\xa3\xa4\xa5\xa6\x0f\x0b",
+        None,
+        0,
+    ),
+    (
+        b"\x0f\x11\xa1\xa2\xa3\xa4\xa5\xa6\x0f\x84\x0a\x00\x00\x00\x64\x67\x44\x8b\x94\x24\x00\x00\x00\x00\x48\x81\xc4\x08\x00\x00\x00\x49\xbb\xff\xdd\x5e\x5d\x5c\x5b\x5a\x59\x49\xf7\xd3\x67\x4d\x3b\x9a\x00\x00\x00\x00\x0f\x84\x02\x00\x00\x00\x0f\x0b\x49\x81\xc2\x08\x00\x00\x00\x41\xff\xe2",
+        Some(Rule::V6),
+        0x10008,
+    ),
+    (
+        b"\x0f\x11\xa1\xa2\xa3\xa4\xa5\xa6\xe8\x22\x00\x00\x00\x00\x22\xa1\xa2\xa3\xa4\xa5\xa6\x0f\x0b\xe8\x13\x00\x00\x00\x00\x22\xa1\xa2\xa3\xa4\xa5\xa6\x90\x0f\x0b\x0f\x11\xa1\xa2\xa3\xa4\xa5\xa6\x40\xb8\x1c\x00\x01\x00\x64\x67\x48\x89\x84\x24\x00\x00\x00\x00\x64\x67\x44\x8b\x94\x24\x00\x00\x00\x00\x48\x81\xc4\x08\x00\x00\x00\x49\xbb\xff\xdd\x5e\x5d\x5c\x5b\x5a\x59\x49\xf7\xd3\x67\x4d\x3b\x9a\x00\x00\x00\x00\x0f\x84\x02\x00\x00\x00\x0f\x0b\x49\x81\xc2\x08\x00\x00\x00\x41\xff\xe2",
+        None,
+        0,
+    ),
+    (
+        b"\x0f\x11\xa1\xa2\xa3\xa4\xa5\xa6\x48\x89\xc4\x64\x67\x48\x8b\x80\x00\x00\x00\x00\x0f\x0b",
+        Some(Rule::V14),
+        0x10008,
+    ),
+    (
+        b"\x0f\x11\xa1\xa2\xa3\xa4\xa5\xa6\xe8\x12\x00\x00\x00\x01\x22\xa1\xa2\xa3\xa4\xa5\xa6\x0f\x0b\x0f\x11\xa1\xa2\xa3\xa4\xa5\xa6\x0f\x0b",
+        Some(Rule::V5),
+        0x10008,
+    ),
+    (
+        b"\x0f\x11\xa1\xa2\xa3\xa4\xa5\xa6\xe8\x0b\xff\xff\xff\x00\x22\xa1\xa2\xa3\xa4\xa5\xa6\x0f\x0b",
+        Some(Rule::V7),
+        0x10008,
+    ),
+    (
+        b"\x0f\x11\xa1\xa2\xa3\xa4\xa5\xa6\xe8\xf3\x0f\xff\xff\x00\x22\xa1\xa2\xa3\xa4\xa5\xa6\x0f\x0b",
+        Some(Rule::V15),
+        0x10008,
+    ),
+    (
+        b"\x0f\x11\xa1\xa2\xa3\xa4\xa5\xa6\xe8\xf4\x0f\xff\xff\x00\x22\xa1\xa2\xa3\xa4\xa5\xa6\x0f\x0b",
+        Some(Rule::V7),
+        0x10008,
+    ),
+    (
+        b"\x0f\x11\xa1\xa2\xa3\xa4\xa5\xa6\xe8\x53\x0f\xff\xff\x01\x22\xa1\xa2\xa3\xa4\xa5\xa6\x0f\x0b",
+        Some(Rule::V7),
+        0x10008,
+    ),
+];
+
+/// The rules from V2 on, each with a piece of code that breaks it behind a call word of bits 0f. V9 is broken by an entry
+/// of 4 beside a NOP.
+static PIECES: [(Rule, &[u8]); 15] = [
+    (Rule::V2, b"\x06"),
+    (Rule::V3, b"\x90\x0f\x11\xa1\xa2\xa3\xa4\xa5\xa6"),
+    (Rule::V4, b"\x49\xb8\xa1\xa2\xa3\xa4\xa5\xa6\x00\x00"),
+    (Rule::V5, b"\x00\x22\xa1\xa2\xa3\xa4\xa5\xa6"),
+    (Rule::V6, b"\xe9\xfc\xff\xff\xff"),
+    (
+        Rule::V7,
+        b"\xe8\x00\x00\x00\x00\x00\x22\xa1\xa2\xa3\xa4\xa5\xa6",
+    ),
+    (
+        Rule::V8,
+        b"\x0f\x0b\x0f\x11\xa1\xa2\xa3\xa4\xa5\xa6\x64\x67\x44\x8b\x94\x24\x00\x00\x00\x00\x48\x81\xc4\x08\x00\x00\x00\x49\xbb\xfe\xdd\x5e\x5d\x5c\x5b\x5a\x59\x49\xf7\xd3\x67\x4d\x3b\x9a\x00\x00\x00\x00\x0f\x84\x02\x00\x00\x00\x0f\x0b\x49\x81\xc2\x08\x00\x00\x00\x41\xff\xe2\x0f\x11\xa1\xa2\xa3\xa4\xa5\xa6",
+    ),
+    (Rule::V9, b"\x90"),
+    (Rule::V10, b"\x64\x67\x48\x8b\x98\x00\x00\x00\x00"),
+    (
+        Rule::V11,
+        b"\x41\xb8\x00\x10\x00\x00\x64\x67\x49\x89\x80\x00\x00\x00\x00",
+    ),
+    (Rule::V12, b"\x0f\x84\x00\x00\x00\x00"),
+    (Rule::V13, b"\x48\xf7\xf9"),
+    (Rule::V14, b"\x48\x89\xc4"),
+    (
+        Rule::V15,
+        b"\xe8\x12\x00\x00\x00\x00\x22\xa1\xa2\xa3\xa4\xa5\xa6\x0f\x0b\x00\x11\xa1\xa2\xa3\xa4\xa5\xa6\x0f\x0b\x0f\x11\xa1\xa2\xa3\xa4\xa5\xa6",
+    ),
+    (
+        Rule::V16,
+        b"\x0f\x0b\x0f\x11\xa1\xa2\xa3\xa4\xa5\xa6\x64\x67\x44\x8b\x94\x24\x00\x00\x00\x00\x48\x81\xc4\x08\x00\x00\x00\x49\xbb\xff\xdd\x5e\x5d\x5c\x5b\x5a\x59\x49\xf7\xd3\x67\x4d\x3b\x9a\x00\x00\x00\x00\x0f\x84\x02\x00\x00\x00\x0f\x0b\x49\x81\xc2\x08\x00\x00\x00\x41\xff\xe2\x0f\x11\xa1\xa2\xa3\xa4\xa5\xa6",
+    ),
+];
+
+/// For each two pieces, the first before the second: the number of the rule that is told and its place in the code, by
+/// `tools/verdicts.py pairs`.
+static PAIRS: [[(u8, u64); 15]; 15] = [
+    [
+        (2, 8),
+        (2, 8),
+        (2, 8),
+        (2, 8),
+        (2, 8),
+        (2, 8),
+        (2, 8),
+        (2, 8),
+        (2, 8),
+        (2, 8),
+        (2, 8),
+        (2, 8),
+        (2, 8),
+        (2, 8),
+        (2, 8),
+    ],
+    [
+        (2, 17),
+        (3, 8),
+        (3, 8),
+        (3, 8),
+        (3, 8),
+        (3, 8),
+        (3, 8),
+        (3, 8),
+        (3, 8),
+        (3, 8),
+        (3, 8),
+        (3, 8),
+        (3, 8),
+        (3, 8),
+        (3, 8),
+    ],
+    [
+        (2, 18),
+        (3, 18),
+        (4, 10),
+        (4, 10),
+        (4, 10),
+        (4, 10),
+        (4, 10),
+        (4, 10),
+        (4, 10),
+        (4, 10),
+        (4, 10),
+        (4, 10),
+        (4, 10),
+        (4, 10),
+        (4, 10),
+    ],
+    [
+        (2, 16),
+        (3, 16),
+        (4, 18),
+        (5, 8),
+        (5, 8),
+        (5, 8),
+        (5, 8),
+        (5, 8),
+        (5, 8),
+        (5, 8),
+        (5, 8),
+        (5, 8),
+        (5, 8),
+        (5, 8),
+        (5, 8),
+    ],
+    [
+        (2, 13),
+        (3, 13),
+        (4, 15),
+        (5, 13),
+        (6, 8),
+        (6, 8),
+        (6, 8),
+        (6, 8),
+        (6, 8),
+        (6, 8),
+        (6, 8),
+        (6, 8),
+        (6, 8),
+        (6, 8),
+        (6, 8),
+    ],
+    [
+        (2, 21),
+        (3, 21),
+        (4, 23),
+        (5, 21),
+        (6, 21),
+        (7, 8),
+        (7, 8),
+        (7, 8),
+        (7, 8),
+        (7, 8),
+        (7, 8),
+        (7, 8),
+        (7, 8),
+        (7, 8),
+        (7, 8),
+    ],
+    [
+        (2, 82),
+        (3, 82),
+        (4, 84),
+        (5, 82),
+        (6, 82),
+        (7, 82),
+        (8, 18),
+        (8, 18),
+        (8, 18),
+        (8, 18),
+        (8, 18),
+        (8, 18),
+        (8, 18),
+        (8, 18),
+        (8, 18),
+    ],
+    [
+        (2, 9),
+        (3, 9),
+        (4, 11),
+        (5, 9),
+        (6, 9),
+        (7, 9),
+        (8, 19),
+        (9, 4),
+        (9, 4),
+        (9, 4),
+        (9, 4),
+        (9, 4),
+        (9, 4),
+        (9, 4),
+        (9, 4),
+    ],
+    [
+        (2, 17),
+        (3, 17),
+        (4, 19),
+        (5, 17),
+        (6, 17),
+        (7, 17),
+        (8, 27),
+        (9, 4),
+        (10, 8),
+        (10, 8),
+        (10, 8),
+        (10, 8),
+        (10, 8),
+        (10, 8),
+        (10, 8),
+    ],
+    [
+        (2, 23),
+        (3, 23),
+        (4, 25),
+        (5, 23),
+        (6, 23),
+        (7, 23),
+        (8, 33),
+        (9, 4),
+        (11, 14),
+        (11, 14),
+        (11, 14),
+        (11, 14),
+        (11, 14),
+        (11, 14),
+        (11, 14),
+    ],
+    [
+        (2, 14),
+        (3, 14),
+        (4, 16),
+        (5, 14),
+        (6, 14),
+        (7, 14),
+        (8, 24),
+        (9, 4),
+        (12, 8),
+        (12, 8),
+        (12, 8),
+        (12, 8),
+        (12, 8),
+        (12, 8),
+        (12, 8),
+    ],
+    [
+        (2, 11),
+        (3, 11),
+        (4, 13),
+        (5, 11),
+        (6, 11),
+        (7, 11),
+        (8, 21),
+        (9, 4),
+        (13, 8),
+        (13, 8),
+        (13, 8),
+        (13, 8),
+        (13, 8),
+        (13, 8),
+        (13, 8),
+    ],
+    [
+        (2, 11),
+        (3, 11),
+        (4, 13),
+        (5, 11),
+        (6, 11),
+        (7, 11),
+        (8, 21),
+        (9, 4),
+        (14, 8),
+        (14, 8),
+        (14, 8),
+        (14, 8),
+        (14, 8),
+        (14, 8),
+        (14, 8),
+    ],
+    [
+        (2, 41),
+        (3, 41),
+        (4, 43),
+        (5, 41),
+        (6, 41),
+        (7, 41),
+        (8, 51),
+        (9, 4),
+        (15, 8),
+        (15, 8),
+        (15, 8),
+        (15, 8),
+        (15, 8),
+        (15, 8),
+        (15, 8),
+    ],
+    [
+        (2, 82),
+        (3, 82),
+        (4, 84),
+        (5, 82),
+        (6, 82),
+        (7, 82),
+        (8, 92),
+        (9, 4),
+        (16, 18),
+        (16, 18),
+        (16, 18),
+        (16, 18),
+        (16, 18),
+        (16, 18),
+        (16, 18),
+    ],
 ];
 
 fn told(alloc: Global, bytes: &[u8]) -> Result<(Option<Rule>, u64), NoMemory> {
@@ -240,6 +605,42 @@ fn tells_the_rule_of_a_code(rt: HostRuntime) {
             Err(NoMemory) => assert!(rt; false),
         }
     }
+}
+
+/// Of two rules that are broken, in both orders of address, the right one is told.
+#[test]
+fn tells_one_of_two_rules(rt: HostRuntime) -> Result<(), Fail> {
+    let alloc = rt.alloc();
+    for (i, (first, a)) in PIECES.iter().enumerate() {
+        for (j, (second, b)) in PIECES.iter().enumerate() {
+            let mut code = Vec::new(alloc);
+            code.extend_from_slice(&SMALL[44..52])?;
+            code.extend_from_slice(a)?;
+            code.extend_from_slice(b)?;
+            code.extend_from_slice(&SMALL[52..])?;
+            let mut bytes = image(
+                alloc,
+                &[0xa1, 0xa2, 0xa3, 0xa4, 0xa5, 0xa6],
+                code.as_slice(),
+            )?;
+            assert!(rt; bytes.len() > 40);
+            bytes[40] = if *first == Rule::V9 || *second == Rule::V9 {
+                4
+            } else {
+                8
+            };
+            let (number, place) = PAIRS[i][j];
+            let (rule, at) = told(alloc, bytes.as_slice())?;
+            assert_eq!(rt; rule.map_or(0, number_of), number, "{first:?} {second:?}");
+            assert_eq!(rt; at, 0x10000 + place, "{first:?} {second:?}");
+        }
+    }
+    Ok(())
+}
+
+/// The number in a rule's name.
+fn number_of(rule: Rule) -> u8 {
+    rule as u8 + 1
 }
 
 /// The second of two occurrences that overlap is not that of the word.
