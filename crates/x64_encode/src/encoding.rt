@@ -187,6 +187,8 @@ fn into_register(wide: bool, dst: Reg) -> [u8; 2]
 pub fn encode(i: &Instr) -> ArrayVec<u8, 16>
     // The row, for each instruction that a value can hold.
     ensures bytes { result.items ≡ spelling i.now }
+    // As many bytes as the row has, which `length_of` tells.
+    ensures length { array_vec_len result ≡ length (spelling i.now) }
     // Read back, whatever follows, it is the instruction again;
     ensures read_back { HasCount i.now → (rest : List ℕ) → instruction_at (result.items ++ rest) ≡ Some i.now }
     // a shift by another count is no instruction there.

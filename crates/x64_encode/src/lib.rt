@@ -11,7 +11,7 @@ mod fields;
 mod lengths;
 
 pub use encoding::encode;
-pub use lengths::length_of;
+pub use lengths::{LONGEST, length_of};
 
 #[cfg(test)]
 mod tests;
