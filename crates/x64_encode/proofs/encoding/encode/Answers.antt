@@ -7,5 +7,5 @@ returns-clause-read_back c = λ h. read_back _ _ c.row.ensures.bytes (c.row.ensu
 pub returns-clause-no_row : goal.returns-clause-no_row
 returns-clause-no_row c = no_row _ _ c.row.ensures.bytes
 
-pub returns-clause-again : goal.returns-clause-again
-returns-clause-again c = written_again _ _ c.row.ensures.bytes
+pub returns-clause-written_again : goal.returns-clause-written_again
+returns-clause-written_again c = written_again _ _ c.row.ensures.bytes
