@@ -1,0 +1,2 @@
+-- What can be said of any instruction that a value holds.
+pub mod Counts
