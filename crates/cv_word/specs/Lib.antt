@@ -2,3 +2,4 @@
 pub mod Words
 pub mod Arithmetic
 pub mod MemoryMap
+pub mod Heap
