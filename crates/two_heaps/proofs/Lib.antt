@@ -1,1 +1,5 @@
 mod Rows
+pub mod Ordered
+pub mod Merging
+pub mod Tilings
+pub mod Laws

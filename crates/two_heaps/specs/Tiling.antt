@@ -1,5 +1,5 @@
 -- What every heap is: from its start to its end, holes and blocks lie end to end. And what follows, offset by offset.
-use Rattle.std.specs.Prelude.{◌≡◌, ℕ, ◌+◌, ◌%◌, ◌<◌, ◌≤◌, ◌⊎◌, List, [], ◌∷◌, length, slice_index_or, All, Any, Option, Some}
+use Rattle.std.specs.Prelude.{◌≡◌, ℕ, ◌+◌, ◌%◌, ◌<◌, ◌≤◌, ◌⊎◌, List, [], ◌∷◌, length, All, Any, AllPairs, Option, Some}
 use Rattle.cv_word.specs.Heap.{Span, end_of, Heap, most_blocks, block_size, taken_at}
 
 -- a span takes the bytes from one offset up to another: some, and a multiple of 16
@@ -44,10 +44,8 @@ pub record IsUnits (start to : ℕ) (span : Span) : Type 0 where
 pub record IsCovered (start to : ℕ) (heap : Heap) : Type 0 where
   pub covered : (offset : ℕ) → start ≤ offset → offset < to → Any (Has offset) heap.holes ⊎ Any (Has offset) heap.blocks
   pub apart : (offset : ℕ) → Any (Has offset) heap.holes → Any (Has offset) heap.blocks → ⊥
-  pub holes_apart : (i j : ℕ) (d : Span) → i < j → j < length heap.holes
-      → end_of (slice_index_or heap.holes i d) < (slice_index_or heap.holes j d).at
-  pub blocks_apart : (i j : ℕ) (d : Span) → i < j → j < length heap.blocks
-      → end_of (slice_index_or heap.blocks i d) ≤ (slice_index_or heap.blocks j d).at
+  pub holes_apart : AllPairs (λ lower upper. end_of lower < upper.at) heap.holes
+  pub blocks_apart : AllPairs (λ lower upper. end_of lower ≤ upper.at) heap.blocks
   pub holes : All (IsUnits start to) heap.holes
   pub blocks : All (IsUnits start to) heap.blocks
   pub few : length heap.holes ≤ length heap.blocks + 1

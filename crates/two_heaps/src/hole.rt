@@ -2,7 +2,7 @@
 
 ghost use Rattle.std.specs.Prelude.{◌≡◌, ◌+◌, ◌^◌, ◌<◌, ◌≤◌, ℕ, length, nat_le, position};
 ghost use Rattle.cv_word.specs.Heap.{end_of, starting_below};
-ghost use Rattle.two_heaps.specs.Kept.{RisesFrom};
+ghost use Rattle.two_heaps.specs.Kept.{Rises};
 
 use std::marker::Model;
 
@@ -59,7 +59,7 @@ pub fn first_fit(holes: &[Hole], size: u32) -> Option<usize>
 
 /// How many begin below an offset.
 pub fn place_of(spans: &[Hole], at: u32) -> usize
-    requires { RisesFrom 0 spans.now }
+    requires { Rises 0 0 spans.now }
     ensures { result ≡ length (starting_below at spans.now) }
 {
     spans.partition_point(|span| span.begin() < at)
