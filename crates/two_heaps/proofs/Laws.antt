@@ -7,8 +7,8 @@ use Rattle.std.proofs.lemmas.Option.{none-some}
 use Rattle.cv_word.specs.Heap.{Span, end_of, span_between, hole_between, fresh_heap, Heap, most_blocks, block_size, hole_for, with_block, taken_at, after_take, block_at, without_block, gives, after_give, replaced_at, merged}
 use Rattle.two_heaps.specs.Tiling.{Fills, Tiles, IsHeap}
 use Rattle.two_heaps.specs.Tiling.Tiles.{end, last_hole, block, hole_and_block}
-use Rattle.two_heaps.proofs.Ordered.{replaced_count}
-use Rattle.two_heaps.proofs.Tilings.{fits, begins, take_tiles, give_tiles}
+use Rattle.two_heaps.proofs.Ordered.{either, replaced_count}
+use Rattle.two_heaps.proofs.Tilings.{fits, take_tiles, give_tiles}
 
 -- ---- a fresh heap
 
@@ -67,11 +67,6 @@ taken_answer heap n hole e = ap (λ o. option_map (λ (hole : Span). hole.at) o)
 pub taken_refusal : (heap : Heap) (n : ℕ) → hole_for heap n ≡ None → taken_at heap n ≡ None
 unfolding taken_at
 taken_refusal heap n e = ap (λ o. option_map (λ (hole : Span). hole.at) o) e
-
--- a search answers, or it doesn't
-pub either : {A : Type 0} (o : Option A) → (o ≡ None) ⊎ ((x : A) × (o ≡ Some x))
-either None = inl refl
-either (Some x) = inr (x, refl)
 
 size_of : (n : ℕ) → 0 < n → (0 < block_size n) × (block_size n % 16 ≡ 0)
 size_of n some = (omega arith, omega arith)

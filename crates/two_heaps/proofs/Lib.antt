@@ -3,3 +3,4 @@ pub mod Ordered
 pub mod Merging
 pub mod Tilings
 pub mod Laws
+pub mod Places

@@ -1,5 +1,5 @@
 -- Lists of spans by offset: what begins below an offset is a front of the list, and what begins above it a rest.
-use Rattle.std.proofs.Common.{◌≡◌, ℕ, zero, suc, ◌+◌, ◌-◌, ◌<◌, ◌≤◌, ◌⊎◌, inl, inr, Bool, true, false, cond, eqb, ltb, Option, Some, None, List, [], ◌∷◌, ◌++◌, length, get_or, take, drop, refl, sym, ◌∙◌, ap, subst, arith, length-append}
+use Rattle.std.proofs.Common.{◌≡◌, ℕ, zero, suc, ◌+◌, ◌-◌, ◌<◌, ◌≤◌, ◌⊎◌, inl, inr, Bool, true, false, cond, eqb, ltb, Option, Some, None, List, [], ◌∷◌, ◌++◌, length, get_or, refl, sym, ◌∙◌, ap, subst, arith, length-append}
 use Rattle.std.specs.Prelude.{filter, find}
 use Rattle.std.proofs.lemmas.Bool.{cases_lt, cases_Bool, lt-ltb, le-ltb, ne_eqb}
 use Rattle.std.proofs.lemmas.Option.{same_Some}
@@ -19,6 +19,11 @@ found p x xs e = ap (λ b. cond b (Some x) (find p xs)) e
 
 pub passed_by : (p : Span → Bool) (x : Span) (xs : List Span) → p x ≡ false → find p (x ∷ xs) ≡ find p xs
 passed_by p x xs e = ap (λ b. cond b (Some x) (find p xs)) e
+
+-- a search answers, or it doesn't
+pub either : {A : Type 0} (o : Option A) → (o ≡ None) ⊎ ((x : A) × (o ≡ Some x))
+either None = inl refl
+either (Some x) = inr (x, refl)
 
 -- what a search finds passes the test
 pub find_passes : (p : Span → Bool) (xs : List Span) (x : Span) → find p xs ≡ Some x → p x ≡ true
@@ -40,7 +45,12 @@ rises_closer gap from [] r = tt
 rises_closer gap from (x ∷ xs) r =
     (r.0, r.1, rises_lower 0 (end_of x + 0) (end_of x + gap) xs (omega arith) (rises_closer gap (end_of x + gap) xs r.2))
 
--- and begins no lower than the list
+pub rises_at : (gap from : ℕ) (xs : List Span) (k : ℕ) (d : Span) → Rises gap from xs → k < length xs → (from ≤ (get_or xs k d).at) × (0 < (get_or xs k d).len)
+rises_at gap from [] k d r lt = absurd (omega arith)
+rises_at gap from (x ∷ xs) zero d r lt = (r.0, r.1)
+rises_at gap from (x ∷ xs) (suc k) d r lt = let h = rises_at gap (end_of x + gap) xs k d r.2 (omega arith) in (omega (arith, h.0, r.0), h.1)
+
+-- what a search finds begins no lower than the list
 pub find_from : (gap from : ℕ) (p : Span → Bool) (xs : List Span) (x : Span) → Rises gap from xs → find p xs ≡ Some x → from ≤ x.at
 find_from gap from p [] x r e = cc
 find_from gap from p (y ∷ ys) x r e =

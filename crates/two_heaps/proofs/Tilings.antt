@@ -1,15 +1,15 @@
 -- Holes and blocks lie end to end, and take and give keep that.
-use Rattle.std.proofs.Common.{◌≡◌, ℕ, zero, suc, ◌+◌, ◌-◌, ◌*◌, ◌/◌, ◌%◌, ◌<◌, ◌≤◌, ◌⊎◌, inl, inr, Bool, true, false, cond, eqb, ltb, leb, Option, Some, None, List, [], ◌∷◌, ◌++◌, length, refl, sym, ◌∙◌, ap, subst, arith}
+use Rattle.std.proofs.Common.{◌≡◌, ℕ, zero, suc, ◌+◌, ◌-◌, ◌*◌, ◌/◌, ◌%◌, ◌<◌, ◌≤◌, ◌⊎◌, inl, inr, Bool, true, false, cond, eqb, ltb, leb, Option, Some, None, List, [], ◌∷◌, ◌++◌, length, get_or, refl, sym, ◌∙◌, ap, subst, arith}
 use Rattle.std.specs.Prelude.{filter, find}
 use Rattle.std.proofs.lemmas.Bool.{cases_lt, cases_eq, cases_Bool, lt-ltb, le-ltb, eq-eqb, ne_eqb, leb-true}
 use Rattle.std.proofs.lemmas.Option.{same_Some, none-some}
 use Rattle.cv_word.specs.Heap.{Span, end_of, span_between, hole_between, starting_above, free_to, merged, replaced_at, Heap, fresh_heap, most_blocks}
 use Rattle.two_heaps.specs.Tiling.{Fills, Tiles, IsHeap}
 use Rattle.two_heaps.specs.Tiling.Tiles.{end, last_hole, block, hole_and_block}
-use Rattle.two_heaps.specs.Kept.{Rises}
+use Rattle.two_heaps.specs.Kept.{Rises, begins}
 use Rattle.two_heaps.proofs.Ordered.{found, passed_by, replaced_skip, replaced_first, replaced_here}
 use Rattle.two_heaps.proofs.Merging.{merged_skip, merged_first, merged_onto, free_to_none, free_to_first, above_first}
-use Rattle.two_heaps.proofs.Ordered.{all_above, rises_lower, find_from, find_passes}
+use Rattle.two_heaps.proofs.Ordered.{all_above, rises_lower, rises_at, find_from}
 
 -- ---- by offset
 
@@ -49,6 +49,33 @@ holes_count from to holes blocks (end e) = omega arith
 holes_count from to holes blocks (last_hole f) = omega arith
 holes_count from to holes blocks (block {next = n} {holes = hs} {blocks = bs} f t) = let r = holes_count n to hs bs t in omega arith
 holes_count from to holes blocks (hole_and_block {next = n} {holes = hs} {blocks = bs} f g t) = let r = holes_count n to hs bs t in omega arith
+
+-- no hole has a byte in common with a block
+pub tiles_apart : (from to : ℕ) (holes blocks : List Span) → Tiles from to holes blocks → (i j : ℕ) (d e : Span) → i < length holes → j < length blocks →
+    (end_of (get_or holes i d) ≤ (get_or blocks j e).at) ⊎ (end_of (get_or blocks j e) ≤ (get_or holes i d).at)
+tiles_apart from to holes blocks (end same) i j d e in_holes in_blocks = absurd (omega arith)
+tiles_apart from to holes blocks (last_hole f) i j d e in_holes in_blocks = absurd (omega arith)
+tiles_apart from to holes blocks (block {next = n} {block = b} {holes = hs} {blocks = bs} f t) i zero d e in_holes in_blocks =
+    let l = fills_len from n b f in
+    let low = rises_at 1 n hs i d (holes_rise n to hs bs t) in_holes in
+    inr (omega (arith, l.1, l.2, low.0))
+tiles_apart from to holes blocks (block {next = n} {block = b} {holes = hs} {blocks = bs} f t) i (suc j) d e in_holes in_blocks =
+    tiles_apart n to hs bs t i j d e in_holes (omega arith)
+tiles_apart from to holes blocks (hole_and_block {middle = m} {next = n} {hole = h} {block = b} {holes = hs} {blocks = bs} f g t) zero zero d e in_holes in_blocks =
+    let k = fills_len from m h f in
+    let l = fills_len m n b g in
+    inl (omega (arith, k.1, k.2, l.1))
+tiles_apart from to holes blocks (hole_and_block {middle = m} {next = n} {hole = h} {block = b} {holes = hs} {blocks = bs} f g t) zero (suc j) d e in_holes in_blocks =
+    let k = fills_len from m h f in
+    let l = fills_len m n b g in
+    let low = rises_at 0 n bs j e (blocks_rise n to hs bs t) (omega arith) in
+    inl (omega (arith, k.1, k.2, l.0, l.2, low.0))
+tiles_apart from to holes blocks (hole_and_block {middle = m} {next = n} {hole = h} {block = b} {holes = hs} {blocks = bs} f g t) (suc i) zero d e in_holes in_blocks =
+    let l = fills_len m n b g in
+    let low = rises_at 1 n hs i d (holes_rise n to hs bs t) (omega arith) in
+    inr (omega (arith, l.1, l.2, low.0))
+tiles_apart from to holes blocks (hole_and_block {middle = m} {next = n} {hole = h} {block = b} {holes = hs} {blocks = bs} f g t) (suc i) (suc j) d e in_holes in_blocks =
+    tiles_apart n to hs bs t i j d e (omega arith) (omega arith)
 
 -- ---- take
 
@@ -209,9 +236,6 @@ freed_behind from middle next to hole out holes blocks aligned f g t =
     (merged_onto 1 next out hole holes k.0 l.0 (f.ends ∙ sym g.begins) (omega (arith, l.1, l.2)) (holes_rise next to holes blocks t))
     (replaced_here 0 middle [] out blocks (blocks_rise middle to holes (out ∷ blocks) (block g t)))
     (free_front_at from next to hole.at (end_of out) holes blocks f.begins g.ends (omega (arith, k.0, k.2, l.0, l.2)) aligned (omega (arith, k.2, l.2)) t)
-
-abbrev pub begins : ℕ → Span → Bool
-begins at span = eqb span.at at
 
 pub give_tiles : (at from to : ℕ) (holes blocks : List Span) (out : Span) → from % 16 ≡ 0 → Tiles from to holes blocks →
     find (begins at) blocks ≡ Some out → Freed from to holes blocks out

@@ -1,17 +1,16 @@
-//! Holes and blocks, and lists of them by offset.
+//! Holes and blocks.
 
-ghost use Rattle.std.specs.Prelude.{◌≡◌, ◌+◌, ◌^◌, ◌<◌, ◌≤◌, ℕ, length, nat_le, position};
-ghost use Rattle.cv_word.specs.Heap.{end_of, starting_below};
-ghost use Rattle.two_heaps.specs.Kept.{Rises};
+ghost use Rattle.std.specs.Prelude.{◌≡◌, ◌^◌, ◌<◌};
+ghost use Rattle.cv_word.specs.Heap.{end_of};
 
 use std::marker::Model;
 
-/// So many bytes of a segment, from an offset on.
+/// So many bytes of a heap, from an offset on.
 #[derive(Clone, Copy, Debug, PartialEq, Eq)]
 pub struct Hole {
-    /// The offset of the first byte, a multiple of 16.
+    /// The offset of the first byte, in the segment: a multiple of 16.
     pub at: u32,
-    /// How many bytes, a multiple of 16 above 0.
+    /// How many bytes: a multiple of 16 above 0.
     pub len: u32,
 }
 
@@ -25,7 +24,7 @@ impl Model for Hole {
     ghost inverse = { λ span. record { at = span.at; len = span.len } };
 }
 
-/// A block that is out is a span like a hole.
+/// A block that is out has an offset and a length, like a hole.
 pub type Block = Hole;
 
 impl Hole {
@@ -36,31 +35,4 @@ impl Hole {
     {
         self.at + self.len
     }
-
-    pub fn begin(self) -> u32
-        ensures { result ≡ self.at }
-    {
-        self.at
-    }
-
-    pub fn size(self) -> u32
-        ensures { result ≡ self.len }
-    {
-        self.len
-    }
-}
-
-/// The place of the first that has so many bytes.
-pub fn first_fit(holes: &[Hole], size: u32) -> Option<usize>
-    ensures { result ≡ position (λ hole. nat_le size hole.len) holes.now }
-{
-    holes.iter().position(|hole| hole.size() >= size)
-}
-
-/// How many begin below an offset.
-pub fn place_of(spans: &[Hole], at: u32) -> usize
-    requires { Rises 0 0 spans.now }
-    ensures { result ≡ length (starting_below at spans.now) }
-{
-    spans.partition_point(|span| span.begin() < at)
 }

@@ -8,6 +8,7 @@
 
 
 mod hole;
+mod spans;
 
 
 pub use hole::Hole;
