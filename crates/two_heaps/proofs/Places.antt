@@ -9,7 +9,7 @@ use Rattle.std.proofs.lemmas.Option.{none-some, same_Some, cond_some, slice_get-
 use Rattle.std.proofs.lemmas.List.{take_more_set, drop-set-lt, set_split, get_or_default, drop_more, get_or-drop}
 use Rattle.std.proofs.lemmas.List.Folds.{find_at}
 use Rattle.cv_word.specs.Heap.{Span, end_of, span_between, starting_below, starting_above, ending_below, free_from, free_to, hole_between, replaced_at, merged}
-use Rattle.two_heaps.specs.Kept.{Rises, Avoids, IsPlace, begins}
+use Rattle.two_heaps.specs.Kept.{Rises, Avoids, IsPlace, MayJoin, begins}
 use Rattle.two_heaps.proofs.Ordered.{either, find_passes, rises_at, kept, left_out, found, passed_by, none_below, none_at, all_above, replaced_here}
 use Rattle.two_heaps.proofs.Merging.{above_skip, above_first, free_to_none, free_to_first, free_from_none, none_ending_below}
 
@@ -215,6 +215,11 @@ begins_nowhere at xs place is ne =
         (λ d lt same. ne d (omega arith) (ap (λ (s : Span). s.at) (ap (λ n. get_or xs n d) (let h : place ≡ place + 0 = omega arith in h) ∙ sym (get_or-drop place xs 0 d)) ∙ same)) in
     (sym (is.above ∙ none.0), sym (free_to_at_place at xs place is ∙ none.2))
 
+pub begins_other : (at : ℕ) (xs : List Span) (place : ℕ) (hole : Span) → IsPlace 1 at xs place → hole ≡ get_or xs place hole → (hole.at ≡ at → ⊥) →
+    (drop place xs ≡ starting_above at xs) × (at ≡ free_to at xs)
+begins_other at xs place hole is read ne =
+    begins_nowhere at xs place is (λ d lt same. ne (ap (λ (s : Span). s.at) (read ∙ get_or_default xs place hole d lt) ∙ same))
+
 -- ---- a new block in its place
 
 pub placed : (block : Span) (xs : List Span) → Rises 0 0 xs → Avoids block xs → 0 < block.len → insert xs (length (starting_below block.at xs)) block ≡ replaced_at block.at (block ∷ []) xs
@@ -286,3 +291,37 @@ free_to_high at xs =
           let passes = eqb-true some.0.at at (find_passes (λ span. eqb span.at at) xs some.0 some.1) in
           omega (arith, ap (λ o. option_map_or end_of o at) some.1)
     ]
+
+-- ---- a block that may join the holes
+
+pub below_place : (gap from at : ℕ) (xs : List Span) (k : ℕ) (d : Span) → Rises gap from xs → k < length (starting_below at xs) → (get_or xs k d).at < at
+below_place gap from at [] k d r lt = absurd (omega arith)
+below_place gap from at (x ∷ xs) zero d r lt =
+    elim (cases_lt x.at at) [
+      | inl less ↦ less
+      | inr high ↦ absurd (let h = ap length (none_below gap x.at at (x ∷ xs) high (omega arith, r.1, r.2)) in omega arith)
+    ]
+below_place gap from at (x ∷ xs) (suc k) d r lt =
+    elim (cases_lt x.at at) [
+      | inl less ↦
+          let h = ap length (kept (λ s. ltb s.at at) x xs (lt-ltb x.at at less)) in
+          below_place gap (end_of x + gap) at xs k d r.2 (omega arith)
+      | inr high ↦ absurd (let h = ap length (none_below gap x.at at (x ∷ xs) high (omega arith, r.1, r.2)) in omega arith)
+    ]
+
+pub join_place : (block : Span) (xs : List Span) (at i : ℕ) → MayJoin xs block → at ≡ block.at → i ≡ length (starting_below at xs) → IsPlace 1 at xs i
+join_place block xs at i may e count = subst (IsPlace 1 at xs) (sym count) (place 1 0 at xs may.rises)
+
+pub join_place_behind : (block : Span) (xs : List Span) (at to i : ℕ) → MayJoin xs block → at ≡ block.at → to ≡ end_of block → i ≡ length (starting_below at xs) → IsPlace 1 to xs i
+join_place_behind block xs at to i may e g count =
+    let P : ℕ → Type 0 = λ n. IsPlace 1 n xs i in
+    let same : length (starting_below (end_of block) xs) ≡ i =
+        ap length (same_place 1 0 block xs may.rises may.avoids) ∙ ap (λ n. length (starting_below n xs)) (sym e) ∙ sym count in
+    subst P (sym g) (subst (IsPlace 1 (end_of block) xs) same (place 1 0 (end_of block) xs may.rises))
+
+pub join_apart : (block : Span) (xs : List Span) (at i : ℕ) → MayJoin xs block → at ≡ block.at → i ≡ length (starting_below at xs) → (k : ℕ) (d : Span) → 0 ≤ k → k < i → end_of (get_or xs k d) ≤ at
+join_apart block xs at i may e count k d low lt =
+    let is = join_place block xs at i may e count in
+    let within = is.within in
+    let below = below_place 1 0 at xs k d may.rises (omega arith) in
+    elim (may.avoids k d (omega arith)) [ inl before ↦ omega arith | inr behind ↦ absurd (omega arith) ]
