@@ -4,3 +4,4 @@ pub mod Merging
 pub mod Tilings
 pub mod Laws
 pub mod Places
+pub mod Steps

@@ -1,6 +1,6 @@
 -- Lists of spans by offset: what begins below an offset is a front of the list, and what begins above it a rest.
 use Rattle.std.proofs.Common.{◌≡◌, ℕ, zero, suc, ◌+◌, ◌-◌, ◌<◌, ◌≤◌, ◌⊎◌, inl, inr, Bool, true, false, cond, eqb, ltb, Option, Some, None, List, [], ◌∷◌, ◌++◌, length, get_or, refl, sym, ◌∙◌, ap, subst, arith, length-append}
-use Rattle.std.specs.Prelude.{filter, find}
+use Rattle.std.specs.Prelude.{filter, find, Contains}
 use Rattle.std.proofs.lemmas.Bool.{cases_lt, cases_Bool, lt-ltb, le-ltb, ne_eqb}
 use Rattle.std.proofs.lemmas.Option.{same_Some}
 use Rattle.cv_word.specs.Heap.{Span, end_of, starting_below, starting_above, ending_below, replaced_at}
@@ -32,6 +32,15 @@ find_passes p (y ∷ ys) x e =
     elim (cases_Bool (p y)) [
       | inl passes ↦ let same : y ≡ x = same_Some y x (sym (found p y ys passes) ∙ e) in let P : Span → Type 0 = λ s. p s ≡ true in subst P same passes
       | inr fails ↦ find_passes p ys x (sym (passed_by p y ys fails) ∙ e)
+    ]
+
+-- and stands in the list
+pub find_contains : (p : Span → Bool) (xs : List Span) (x : Span) → find p xs ≡ Some x → Contains xs x
+find_contains p [] x e = cc
+find_contains p (y ∷ ys) x e =
+    elim (cases_Bool (p y)) [
+      | inl passes ↦ (0, omega arith, same_Some y x (sym (found p y ys passes) ∙ e))
+      | inr fails ↦ let h = find_contains p ys x (sym (passed_by p y ys fails) ∙ e) in (suc h.0, let lt = h.1 in omega arith, h.2)
     ]
 
 -- ---- rising lists

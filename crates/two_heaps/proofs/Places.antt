@@ -192,6 +192,14 @@ ends_nowhere at xs place r is none =
     let h = none_ends 0 at xs place r is.within is.rest (λ j d e. absurd (omega arith)) in
     (sym h.0, sym h.1)
 
+-- what stands at a place is the first of the rest
+pub rest_begins : (at : ℕ) (xs : List Span) (place : ℕ) → ((d : Span) → place < length xs → (get_or xs place d).at ≡ at → ⊥) →
+    (d : Span) → 0 < length (drop place xs) → (get_or (drop place xs) 0 d).at ≡ at → ⊥
+rest_begins at xs place ne d lt same =
+    let long = length-drop place xs in
+    let read : get_or (drop place xs) 0 d ≡ get_or xs place d = get_or-drop place xs 0 d ∙ ap (λ n. get_or xs n d) (let h : place + 0 ≡ place = omega arith in h) in
+    ne d (omega arith) (ap (λ (s : Span). s.at) (sym read) ∙ same)
+
 -- ---- the hole that begins at an offset, by what a read at a place found
 
 free_to_at_place : (at : ℕ) (xs : List Span) (place : ℕ) → IsPlace 1 at xs place → free_to at xs ≡ free_to at (drop place xs)
@@ -210,9 +218,7 @@ begins_here at xs place hole is lt read e =
 pub begins_nowhere : (at : ℕ) (xs : List Span) (place : ℕ) → IsPlace 1 at xs place → ((d : Span) → place < length xs → (get_or xs place d).at ≡ at → ⊥) →
     (drop place xs ≡ starting_above at xs) × (at ≡ free_to at xs)
 begins_nowhere at xs place is ne =
-    let long = length-drop place xs in
-    let none = none_begins 1 at (drop place xs) is.rest
-        (λ d lt same. ne d (omega arith) (ap (λ (s : Span). s.at) (ap (λ n. get_or xs n d) (let h : place ≡ place + 0 = omega arith in h) ∙ sym (get_or-drop place xs 0 d)) ∙ same)) in
+    let none = none_begins 1 at (drop place xs) is.rest (rest_begins at xs place ne) in
     (sym (is.above ∙ none.0), sym (free_to_at_place at xs place is ∙ none.2))
 
 pub begins_other : (at : ℕ) (xs : List Span) (place : ℕ) (hole : Span) → IsPlace 1 at xs place → hole ≡ get_or xs place hole → (hole.at ≡ at → ⊥) →
@@ -226,14 +232,11 @@ pub placed : (block : Span) (xs : List Span) → Rises 0 0 xs → Avoids block x
 placed block xs r avoids some =
     let i = length (starting_below block.at xs) in
     let is = place 0 0 block.at xs r in
-    let long = length-drop i xs in
     let none = none_begins 0 block.at (drop i xs) is.rest
-        (λ d lt same.
-            let within : i < length xs = omega arith in
-            let read : get_or (drop i xs) 0 d ≡ get_or xs i d = get_or-drop i xs 0 d ∙ ap (λ n. get_or xs n d) (let h : i + 0 ≡ i = omega arith in h) in
-            let here = sym (ap (λ (s : Span). s.at) read) ∙ same in
+        (rest_begins block.at xs i
+        (λ d within here.
             let inside = rises_at 0 0 xs i d r within in
-            elim (avoids i d within) [ inl before ↦ omega (arith, inside.1, here) | inr behind ↦ omega (arith, here) ]) in
+            elim (avoids i d within) [ inl before ↦ omega (arith, inside.1, here) | inr behind ↦ omega (arith, here) ])) in
     sym (ap (λ l. l ++ (block ∷ starting_above block.at xs)) is.front ∙ ap (λ l. take i xs ++ block ∷ l) (is.above ∙ none.0))
 
 -- ---- a hole cut

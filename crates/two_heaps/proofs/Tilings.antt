@@ -1,6 +1,7 @@
 -- Holes and blocks lie end to end, and take and give keep that.
 use Rattle.std.proofs.Common.{◌≡◌, ℕ, zero, suc, ◌+◌, ◌-◌, ◌*◌, ◌/◌, ◌%◌, ◌<◌, ◌≤◌, ◌⊎◌, inl, inr, Bool, true, false, cond, eqb, ltb, leb, Option, Some, None, List, [], ◌∷◌, ◌++◌, length, get_or, refl, sym, ◌∙◌, ap, subst, arith}
-use Rattle.std.specs.Prelude.{filter, find}
+use Rattle.std.specs.Prelude.{filter, find, All}
+use Rattle.std.proofs.lemmas.List.Elements.{All-nil, All-cons}
 use Rattle.std.proofs.lemmas.Bool.{cases_lt, cases_eq, cases_Bool, lt-ltb, le-ltb, eq-eqb, ne_eqb, leb-true}
 use Rattle.std.proofs.lemmas.Option.{same_Some, none-some}
 use Rattle.cv_word.specs.Heap.{Span, end_of, span_between, hole_between, starting_above, free_to, merged, replaced_at, Heap, fresh_heap, most_blocks}
@@ -49,6 +50,30 @@ holes_count from to holes blocks (end e) = omega arith
 holes_count from to holes blocks (last_hole f) = omega arith
 holes_count from to holes blocks (block {next = n} {holes = hs} {blocks = bs} f t) = let r = holes_count n to hs bs t in omega arith
 holes_count from to holes blocks (hole_and_block {next = n} {holes = hs} {blocks = bs} f g t) = let r = holes_count n to hs bs t in omega arith
+
+-- each span lies inside
+pub holes_inside : (from to : ℕ) (holes blocks : List Span) → Tiles from to holes blocks → All (λ (s : Span). end_of s ≤ to) holes
+holes_inside from to holes blocks (end e) = All-nil (λ (s : Span). end_of s ≤ to)
+holes_inside from to holes blocks (last_hole {hole = h} f) =
+    let e = f.ends in All-cons (λ (s : Span). end_of s ≤ to) h [] (omega arith) (All-nil (λ (s : Span). end_of s ≤ to))
+holes_inside from to holes blocks (block {next = n} {holes = hs} {blocks = bs} f t) = holes_inside n to hs bs t
+holes_inside from to holes blocks (hole_and_block {middle = m} {next = n} {hole = h} {block = b} {holes = hs} {blocks = bs} f g t) =
+    let l = fills_len from m h f in
+    let s = g.some in
+    let up = tiles_up n to hs bs t in
+    All-cons (λ (s : Span). end_of s ≤ to) h hs (omega (arith, l.1, l.2)) (holes_inside n to hs bs t)
+
+pub blocks_inside : (from to : ℕ) (holes blocks : List Span) → Tiles from to holes blocks → All (λ (s : Span). end_of s ≤ to) blocks
+blocks_inside from to holes blocks (end e) = All-nil (λ (s : Span). end_of s ≤ to)
+blocks_inside from to holes blocks (last_hole f) = All-nil (λ (s : Span). end_of s ≤ to)
+blocks_inside from to holes blocks (block {next = n} {block = b} {holes = hs} {blocks = bs} f t) =
+    let l = fills_len from n b f in
+    let up = tiles_up n to hs bs t in
+    All-cons (λ (s : Span). end_of s ≤ to) b bs (omega (arith, l.1, l.2)) (blocks_inside n to hs bs t)
+blocks_inside from to holes blocks (hole_and_block {middle = m} {next = n} {hole = h} {block = b} {holes = hs} {blocks = bs} f g t) =
+    let l = fills_len m n b g in
+    let up = tiles_up n to hs bs t in
+    All-cons (λ (s : Span). end_of s ≤ to) b bs (omega (arith, l.1, l.2)) (blocks_inside n to hs bs t)
 
 -- no hole has a byte in common with a block
 pub tiles_apart : (from to : ℕ) (holes blocks : List Span) → Tiles from to holes blocks → (i j : ℕ) (d e : Span) → i < length holes → j < length blocks →

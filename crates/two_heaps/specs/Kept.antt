@@ -1,6 +1,6 @@
 -- Spans in a list by offset, and what the two vectors of a heap hold.
-use Rattle.std.specs.Prelude.{◌≡◌, ℕ, ◌+◌, ◌^◌, ◌<◌, ◌≤◌, ◌⊎◌, List, [], ◌∷◌, length, take, drop, find, ◌==◌, Bool, slice_index_or, All}
-use Rattle.cv_word.specs.Heap.{Span, end_of, starting_below, starting_above, merged, Heap, most_blocks}
+use Rattle.std.specs.Prelude.{◌≡◌, ℕ, ◌+◌, ◌^◌, ◌<◌, ◌≤◌, ◌⊎◌, List, [], ◌∷◌, length, take, drop, find, ◌==◌, Bool, Some, slice_index_or, All}
+use Rattle.cv_word.specs.Heap.{Span, end_of, starting_below, starting_above, Heap, most_blocks, block_size, hole_for}
 use Rattle.two_heaps.specs.Tiling.{IsHeap}
 
 -- none is empty, the first begins at an offset or above, and each further one at least so many bytes behind the one before
@@ -48,3 +48,9 @@ pub record IsSmallHeap (heap : Heap) : Type 0 where
 pub record HasRoom (hole_room block_room : ℕ) : Type 0 where
   pub holes : most_blocks + 1 ≤ hole_room
   pub blocks : most_blocks ≤ block_room
+
+-- the hole at a place answers a request, with a block of that size
+pub record IsFirstFit (heap : Heap) (n place size : ℕ) : Type 0 where
+  pub within : place < length heap.holes
+  pub sized : size ≡ block_size n
+  pub found : (d : Span) → hole_for heap n ≡ Some (slice_index_or heap.holes place d)

@@ -6,9 +6,10 @@
 //! heap's start to its end, so a block that is handed out has no byte in common with one that is out.
 #![tactic(auto)]
 
-
+mod heap;
 mod hole;
 mod spans;
 
 
+pub use heap::Heap;
 pub use hole::Hole;
