@@ -127,6 +127,9 @@ either_count at (x ∷ xs) =
           ]
     ]
 
+pub below_length : (at : ℕ) (xs : List Span) → length (starting_below at xs) ≤ length xs
+below_length at xs = let h = either_count at xs in omega arith
+
 pub replaced_count : (at : ℕ) (new xs : List Span) → length (replaced_at at new xs) ≤ length new + length xs
 replaced_count at new xs =
     let outer = length-append (starting_below at xs) (new ++ starting_above at xs) in

@@ -153,6 +153,14 @@ no_block heap at i is count ne =
     let spot = block_place heap at i is count in
     spot.search ∙ (none_begins 0 at (drop i heap.blocks) spot.rest (rest_begins at heap.blocks i ne)).1
 
+-- the same by what was read at the place, if it is one
+pub no_block_read : (heap : Heap) (at i n : ℕ) → IsSmallHeap heap → i ≡ length (starting_below at heap.blocks) → n ≡ length heap.blocks →
+    (i ≡ n) ⊎ ((read : Span) × (read ≡ get_or heap.blocks i read) × (read.at ≡ at → ⊥)) → block_at heap at ≡ None
+no_block_read heap at i n is count long (inl past) = no_block heap at i is count (λ d lt same. omega arith)
+no_block_read heap at i n is count long (inr other) =
+    no_block heap at i is count
+    (λ d lt same. other.2 (ap (λ (s : Span). s.at) (other.1 ∙ get_or_default heap.blocks i other.0 d lt) ∙ same))
+
 -- what is known where a block begins at an offset
 pub record Gives (heap : Heap) (at i : ℕ) (block : Span) : Type 0 where
   pub begins : block_at heap at ≡ Some block
@@ -188,3 +196,12 @@ gives_block heap at i block is count within read e =
       blocks = removed_block is.start i block heap.blocks (blocks_rise is.start is.to heap.holes heap.blocks tiles) within read;
       after = record { start = is.start; to = is.to; is_heap = after; from_sixteen = is.from_sixteen; small = is.small };
     }
+
+-- ---- heaps by their two lists
+
+pub same_heap : (holes blocks holes' blocks' : List Span) → holes ≡ holes' → blocks ≡ blocks' → ◌≡◌ {A = Heap} (record { holes = holes; blocks = blocks }) (record { holes = holes'; blocks = blocks' })
+same_heap holes blocks holes' blocks' e g = cc
+
+pub gives_is : (heap : Heap) (at : ℕ) (o : Option Span) → block_at heap at ≡ o → gives heap at ≡ is_some o
+unfolding gives
+gives_is heap at o e = ap (λ r. is_some r) e

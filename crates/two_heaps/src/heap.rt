@@ -5,7 +5,7 @@ ghost use Rattle.cv_word.specs.Heap.{block_size, fresh_heap, hole_for, taken_at,
 ghost use Rattle.two_heaps.specs.Kept.{IsFirstFit};
 
 use crate::hole::{Block, Hole};
-use crate::spans::{cut, first_fit, join, place_block, place_of};
+use crate::spans::{cut, first_fit, join, place_block, place_of, push_between};
 use cv_word::NoMemory;
 use std::alloc::Global;
 use std::marker::Model;
@@ -45,12 +45,7 @@ impl Heap {
     {
         let mut holes = Vec::with_capacity(alloc, MOST_BLOCKS + 1)?;
         let blocks = Vec::with_capacity(alloc, MOST_BLOCKS)?;
-        if start < end {
-            holes.push_reserved(Hole {
-                at: start,
-                len: end - start,
-            });
-        }
+        push_between(&mut holes, start, end);
         Ok(Heap { holes, blocks })
     }
 

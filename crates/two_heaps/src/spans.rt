@@ -35,6 +35,20 @@ pub fn insert(spans: &mut Vec<Hole>, place: usize, span: Hole)
     }
 }
 
+/// Adds the hole from an offset up to another at the end, or none where no byte lies between.
+pub fn push_between(holes: &mut Vec<Hole>, from: u32, to: u32)
+    requires { vec_len holes.old < vec_capacity holes.old }
+    ensures items { holes.new.items ≡ holes.old.items ++ hole_between from to }
+    ensures capacity { vec_capacity holes.new ≡ vec_capacity holes.old }
+{
+    if from < to {
+        holes.push_reserved(Hole {
+            at: from,
+            len: to - from,
+        });
+    }
+}
+
 /// Puts one span in place of none, one or two, from the place `first` up to `last`.
 pub fn replace(spans: &mut Vec<Hole>, first: usize, last: usize, span: Hole)
     requires up { first ≤ last }
