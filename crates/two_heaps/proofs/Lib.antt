@@ -5,3 +5,4 @@ pub mod Tilings
 pub mod Laws
 pub mod Places
 pub mod Steps
+pub mod Covers

@@ -1,8 +1,9 @@
 -- Lists of spans by offset: what begins below an offset is a front of the list, and what begins above it a rest.
 use Rattle.std.proofs.Common.{◌≡◌, ℕ, zero, suc, ◌+◌, ◌-◌, ◌<◌, ◌≤◌, ◌⊎◌, inl, inr, Bool, true, false, cond, eqb, ltb, Option, Some, None, List, [], ◌∷◌, ◌++◌, length, get_or, refl, sym, ◌∙◌, ap, subst, arith, length-append}
-use Rattle.std.specs.Prelude.{filter, find, Contains}
+use Rattle.std.specs.Prelude.{filter, find, Contains, All}
+use Rattle.std.proofs.lemmas.List.Elements.{All-nil, All-cons, All-head, All-tail}
 use Rattle.std.proofs.lemmas.Bool.{cases_lt, cases_Bool, lt-ltb, le-ltb, ne_eqb}
-use Rattle.std.proofs.lemmas.Option.{same_Some}
+use Rattle.std.proofs.lemmas.Option.{same_Some, none-some}
 use Rattle.cv_word.specs.Heap.{Span, end_of, starting_below, starting_above, ending_below, replaced_at}
 use Rattle.two_heaps.specs.Kept.{Rises}
 
@@ -33,6 +34,20 @@ find_passes p (y ∷ ys) x e =
       | inl passes ↦ let same : y ≡ x = same_Some y x (sym (found p y ys passes) ∙ e) in let P : Span → Type 0 = λ s. p s ≡ true in subst P same passes
       | inr fails ↦ find_passes p ys x (sym (passed_by p y ys fails) ∙ e)
     ]
+
+-- a search that finds nothing was failed by each
+pub find_fails : (p : Span → Bool) (xs : List Span) → find p xs ≡ None → All (λ (s : Span). p s ≡ false) xs
+find_fails p [] e = All-nil (λ (s : Span). p s ≡ false)
+find_fails p (y ∷ ys) e =
+    elim (cases_Bool (p y)) [
+      | inl passes ↦ absurd (none-some y (sym e ∙ found p y ys passes))
+      | inr fails ↦ All-cons (λ (s : Span). p s ≡ false) y ys fails (find_fails p ys (sym (passed_by p y ys fails) ∙ e))
+    ]
+
+pub fails_find : (p : Span → Bool) (xs : List Span) → All (λ (s : Span). p s ≡ false) xs → find p xs ≡ None
+fails_find p [] all = refl
+fails_find p (y ∷ ys) all =
+    passed_by p y ys (All-head (λ (s : Span). p s ≡ false) y ys all) ∙ fails_find p ys (All-tail (λ (s : Span). p s ≡ false) y ys all)
 
 -- and stands in the list
 pub find_contains : (p : Span → Bool) (xs : List Span) (x : Span) → find p xs ≡ Some x → Contains xs x

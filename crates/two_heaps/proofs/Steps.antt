@@ -2,14 +2,14 @@
 use Rattle.std.proofs.Common.{◌≡◌, ℕ, zero, suc, ◌+◌, ◌-◌, ◌^◌, ◌<◌, ◌≤◌, ◌⊎◌, ◌||◌, inl, inr, Bool, true, false, cond, eqb, leb, Option, Some, None, List, [], ◌∷◌, ◌++◌, length, get_or, take, drop, refl, sym, ◌∙◌, ap, subst, arith}
 use Rattle.std.specs.Prelude.{find, position, All, is_some}
 use Rattle.std.specs.List.{remove}
-use Rattle.std.proofs.lemmas.Bool.{cases_Bool, cases_lt, leb-true, le-leb, lt-leb, eq-eqb, ne_eqb, or_from, or_left, or_right}
+use Rattle.std.proofs.lemmas.Bool.{cases_Bool, cases_lt, leb-true, leb-false, eqb-true, or_cases, le-leb, lt-leb, eq-eqb, ne_eqb, or_from, or_left, or_right}
 use Rattle.std.proofs.lemmas.Option.{none-some, same_Some}
-use Rattle.std.proofs.lemmas.List.Elements.{All-contains, All-get_or}
+use Rattle.std.proofs.lemmas.List.Elements.{All-contains, All-get_or, All-weaker}
 use Rattle.std.proofs.lemmas.List.{drop_more, get_or-drop, get_or_default}
 use Rattle.cv_word.specs.Heap.{Span, end_of, hole_between, starting_below, Heap, most_blocks, block_size, hole_for, with_block, taken_at, after_take, block_at, without_block, gives, after_give, replaced_at, merged}
-use Rattle.two_heaps.specs.Tiling.{IsHeap}
+use Rattle.two_heaps.specs.Tiling.{IsHeap, IsRefused}
 use Rattle.two_heaps.specs.Kept.{Rises, Avoids, IsPlace, MayJoin, begins, IsSmallHeap, HasRoom, IsFirstFit}
-use Rattle.two_heaps.proofs.Ordered.{either, found, find_passes, find_contains, find_from, rises_at, rises_lower}
+use Rattle.two_heaps.proofs.Ordered.{either, found, find_fails, fails_find, find_passes, find_contains, find_from, rises_at, rises_lower}
 use Rattle.two_heaps.proofs.Tilings.{fits, holes_rise, blocks_rise, holes_inside, blocks_inside, holes_count, tiles_apart}
 use Rattle.two_heaps.proofs.Places.{place, position_finds, position_fails, replaced_at_place, none_begins, rest_begins}
 use Rattle.two_heaps.proofs.Laws.{answered, after_answer, after_refusal, taken_answer, taken_refusal, with_block_is_heap, after_gift, after_no_gift, without_block_is_heap, fresh_is_heap}
@@ -65,6 +65,41 @@ first_fit_is heap n size at some few e first =
       sized = e;
       found = λ d. ap (λ b. cond b None (find (fits (block_size n)) heap.holes)) asked ∙ (position_finds (fits (block_size n)) heap.holes at d there).1;
     }
+
+-- ---- refusals
+
+each_too_small : (heap : Heap) (n : ℕ) → All (λ (s : Span). fits (block_size n) s ≡ false) heap.holes → All (λ (s : Span). s.len < block_size n) heap.holes
+each_too_small heap n all =
+    All-weaker (λ (s : Span). fits (block_size n) s ≡ false) (λ (s : Span). s.len < block_size n) (λ s e. leb-false (block_size n) s.len e) heap.holes all
+
+pub refused_where_none : (heap : Heap) (n : ℕ) → hole_for heap n ≡ None → IsRefused heap n
+unfolding hole_for
+refused_where_none heap n none =
+    elim (cases_Bool (eqb n 0 || leb most_blocks (length heap.blocks))) [
+      | inl refused ↦
+          elim (or_cases (eqb n 0) (leb most_blocks (length heap.blocks)) refused) [
+            | inl empty ↦ inl (eqb-true n 0 empty)
+            | inr full ↦ inr (inl (leb-true most_blocks (length heap.blocks) full))
+          ]
+      | inr asked ↦
+          let nowhere : find (fits (block_size n)) heap.holes ≡ None = sym (ap (λ b. cond b None (find (fits (block_size n)) heap.holes)) asked) ∙ none in
+          inr (inr (each_too_small heap n (find_fails (fits (block_size n)) heap.holes nowhere)))
+    ]
+
+none_where_small : (heap : Heap) (n : ℕ) → All (λ (s : Span). s.len < block_size n) heap.holes → hole_for heap n ≡ None
+unfolding hole_for
+none_where_small heap n all =
+    let fails = All-weaker (λ (s : Span). s.len < block_size n) (λ (s : Span). fits (block_size n) s ≡ false) (λ s e. lt-leb (block_size n) s.len e) heap.holes all in
+    let nowhere = fails_find (fits (block_size n)) heap.holes fails in
+    elim (cases_Bool (eqb n 0 || leb most_blocks (length heap.blocks))) [
+      | inl refused ↦ ap (λ b. cond b None (find (fits (block_size n)) heap.holes)) refused
+      | inr asked ↦ ap (λ b. cond b None (find (fits (block_size n)) heap.holes)) asked ∙ nowhere
+    ]
+
+pub none_where_refused : (heap : Heap) (n : ℕ) → IsRefused heap n → hole_for heap n ≡ None
+none_where_refused heap n (inl empty) = none_for_zero heap n empty
+none_where_refused heap n (inr (inl full)) = none_where_full heap n full
+none_where_refused heap n (inr (inr small)) = none_where_small heap n small
 
 -- ---- take
 

@@ -14,7 +14,7 @@ use Rattle.two_heaps.proofs.Ordered.{all_above, rises_lower, rises_at, find_from
 
 -- ---- by offset
 
-fills_len : (from to : ℕ) (span : Span) → Fills from to span → (0 < span.len) × (span.at ≡ from) × (from + span.len ≡ to)
+pub fills_len : (from to : ℕ) (span : Span) → Fills from to span → (0 < span.len) × (span.at ≡ from) × (from + span.len ≡ to)
 fills_len from to span f = let b = f.begins in let e = f.ends in let s = f.some in (omega arith, b, omega arith)
 
 pub holes_rise : (from to : ℕ) (holes blocks : List Span) → Tiles from to holes blocks → Rises 1 from holes

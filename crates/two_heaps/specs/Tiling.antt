@@ -53,3 +53,7 @@ pub record IsCovered (start to : ℕ) (heap : Heap) : Type 0 where
 -- no byte of the block that answers a request is in a block that is out
 pub record IsFree (heap : Heap) (n : ℕ) : Type 0 where
   pub at : (at offset : ℕ) → taken_at heap n ≡ Some at → at ≤ offset → offset < at + block_size n → Any (Has offset) heap.blocks → ⊥
+
+-- why no block answers a request: it is for no bytes, the most blocks are out, or each hole is too small
+abbrev pub IsRefused : Heap → ℕ → Type 0
+IsRefused heap n = (n ≡ 0) ⊎ ((most_blocks ≤ length heap.blocks) ⊎ All (λ hole. hole.len < block_size n) heap.holes)

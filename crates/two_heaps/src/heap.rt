@@ -1,8 +1,9 @@
 //! The heap.
 
-ghost use Rattle.std.specs.Prelude.{◌≡◌, ◌+◌, ◌%◌, ◌^◌, ◌≤◌, ◌↔◌, None, IfOk, MatchOption, unwrap_or};
+ghost use Rattle.std.specs.Prelude.{◌≡◌, ◌+◌, ◌%◌, ◌^◌, ◌≤◌, ◌↔◌, None, false, IfOk, MatchOption, unwrap_or};
 ghost use Rattle.cv_word.specs.Heap.{block_size, fresh_heap, hole_for, taken_at, after_take, gives, after_give};
-ghost use Rattle.two_heaps.specs.Kept.{IsFirstFit};
+ghost use Rattle.two_heaps.specs.Tiling.{IsHeap, IsRefused};
+ghost use Rattle.two_heaps.specs.Kept.{IsFirstFit, IsSmallHeap};
 
 use crate::hole::{Block, Hole};
 use crate::spans::{cut, first_fit, join, place_block, place_of, push_between};
@@ -41,7 +42,8 @@ impl Heap {
     pub fn new(alloc: Global, start: u32, end: u32) -> Result<Heap, NoMemory>
         requires start { (16 ≤ start) × (start % 16 ≡ 0) }
         requires end { (start ≤ end) × (end % 16 ≡ 0) }
-        ensures { IfOk result (λ heap. heap ≡ fresh_heap start end) }
+        ensures fresh { IfOk result (λ heap. heap ≡ fresh_heap start end) }
+        ensures heap { IfOk result (IsHeap start end) }
     {
         let mut holes = Vec::with_capacity(alloc, MOST_BLOCKS + 1)?;
         let blocks = Vec::with_capacity(alloc, MOST_BLOCKS)?;
@@ -53,8 +55,9 @@ impl Heap {
     /// its offset. Answers 0, and changes nothing, exactly where `n` is 0, no hole holds it, or 4096 blocks are out.
     pub fn take(&mut self, n: u64) -> u32
         ensures answer { result ≡ unwrap_or (taken_at self.old n) 0 }
-        ensures refused { (result ≡ 0) ↔ (taken_at self.old n ≡ None) }
+        ensures refused { (result ≡ 0) ↔ IsRefused self.old n }
         ensures after { self.new ≡ after_take self.old n }
+        ensures kept { result ≡ 0 → self.new ≡ self.old }
     {
         let Some((place, size)) = self.hole_for(n) else {
             return 0;
@@ -70,6 +73,7 @@ impl Heap {
     pub fn give(&mut self, at: u32) -> bool
         ensures answer { result ≡ gives self.old at }
         ensures after { self.new ≡ after_give self.old at }
+        ensures kept { result ≡ false → self.new ≡ self.old }
     {
         let place = place_of(&self.blocks, at);
         if place == self.blocks.len() || self.blocks[place].at != at {
@@ -80,9 +84,10 @@ impl Heap {
         true
     }
 
-    /// The holes, by offset.
+    /// The holes, by offset. Holes and blocks of every heap lie end to end below 2^32.
     pub fn holes(&self) -> &[Hole]
-        ensures { result.now ≡ self.now.holes }
+        ensures holes { result.now ≡ self.now.holes }
+        ensures heap { IsSmallHeap self.now }
     {
         &self.holes
     }

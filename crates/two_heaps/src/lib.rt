@@ -8,8 +8,9 @@
 
 mod heap;
 mod hole;
+mod law;
 mod spans;
-
 
 pub use heap::Heap;
 pub use hole::Hole;
+pub use law::heap_law;

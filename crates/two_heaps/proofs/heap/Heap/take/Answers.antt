@@ -3,7 +3,7 @@ use Rattle.std.specs.Prelude.{unwrap_or}
 use Rattle.cv_word.specs.Heap.{Heap, Span, end_of, hole_for, taken_at, after_take, with_block, block_size, hole_between, replaced_at}
 use Rattle.std.proofs.lemmas.Option.{none-some}
 use Rattle.two_heaps.specs.Kept.{IsSmallHeap, IsFirstFit}
-use Rattle.two_heaps.proofs.Steps.{takes, Takes, same_heap}
+use Rattle.two_heaps.proofs.Steps.{takes, Takes, same_heap, refused_where_none, none_where_refused}
 use Rattle.two_heaps.proofs.Laws.{taken_answer, taken_refusal, after_answer, after_refusal}
 use Rattle.two_heaps.proofs.heap.Heap.take.Goals as goal
 use Rattle.two_heaps.proofs.heap.Heap.take.Goals.{After-index-hole, After-hole}
@@ -18,7 +18,7 @@ returns-in_default-clause-answer c =
 pub returns-in_default-clause-refused : goal.returns-in_default-clause-refused
 returns-in_default-clause-refused c =
     let none : hole_for c.args.self.now c.args.n ≡ None = c.in_default.ensures in
-    (λ e. taken_refusal c.args.self.now c.args.n none, λ e. refl)
+    (λ e. refused_where_none c.args.self.now c.args.n none, λ e. refl)
 
 pub returns-in_default-clause-after : goal.returns-in_default-clause-after
 returns-in_default-clause-after c =
@@ -97,8 +97,13 @@ returns-clause-refused c =
     let d = (goal.at.returns-clause-refused c).After-index-hole in
     let low = (facts d).low in
     let at = ap (λ span. span.at) c.hole.view_is in
-    let taken = taken_answer c.args.self.now c.args.n c.index-hole.result.now (answer d) in
-    (λ e. absurd (omega arith), λ e. absurd (none-some c.index-hole.result.now.at (sym e ∙ taken)))
+    (λ e. absurd (omega arith), λ e. absurd (none-some c.index-hole.result.now (sym (none_where_refused c.args.self.now c.args.n e) ∙ answer d)))
+
+pub returns-clause-kept : goal.returns-clause-kept
+returns-clause-kept c =
+    let low = (facts (goal.at.returns-clause-kept c).After-index-hole).low in
+    let at = ap (λ span. span.at) c.hole.view_is in
+    λ e. absurd (omega arith)
 
 pub returns-clause-after : goal.returns-clause-after
 returns-clause-after c =
