@@ -14,3 +14,6 @@ mod spans;
 pub use heap::Heap;
 pub use hole::Hole;
 pub use law::heap_law;
+
+#[cfg(test)]
+mod tests;
