@@ -1,12 +1,12 @@
 -- What take and give do to a whole heap.
-use Rattle.std.proofs.Common.{◌≡◌, ℕ, zero, suc, ◌+◌, ◌-◌, ◌*◌, ◌/◌, ◌%◌, ◌<◌, ◌≤◌, ◌⊎◌, ◌||◌, inl, inr, Bool, true, false, cond, eqb, ltb, leb, Option, Some, None, List, [], ◌∷◌, ◌++◌, length, refl, sym, ◌∙◌, ap, subst, arith}
+use Rattle.std.proofs.Common.{◌≡◌, ℕ, ◌%◌, ◌<◌, ◌≤◌, ◌||◌, inl, inr, cond, eqb, leb, Some, None, List, [], ◌∷◌, length, refl, sym, ◌∙◌, ap, subst, arith}
 use Rattle.std.specs.Prelude.{find}
 use Rattle.std.specs.Option.{option_map, option_map_or}
-use Rattle.std.proofs.lemmas.Bool.{cases_Bool, cases_lt, or_parts, eqb-false, leb-false, lt-ltb, le-ltb, eqb-true}
+use Rattle.std.proofs.lemmas.Bool.{cases_Bool, cases_lt, or_parts, eqb-false, leb-false, lt-ltb, le-ltb}
 use Rattle.std.proofs.lemmas.Option.{none-some}
-use Rattle.cv_word.specs.Heap.{Span, end_of, span_between, hole_between, fresh_heap, Heap, most_blocks, block_size, hole_for, with_block, taken_at, after_take, block_at, without_block, gives, after_give, replaced_at, merged}
-use Rattle.two_heaps.specs.Tiling.{Fills, Tiles, IsHeap}
-use Rattle.two_heaps.specs.Tiling.Tiles.{end, last_hole, block, hole_and_block}
+use Rattle.cv_word.specs.Heap.{Span, span_between, hole_between, fresh_heap, Heap, most_blocks, block_size, hole_for, with_block, taken_at, after_take, block_at, without_block, after_give}
+use Rattle.two_heaps.specs.Tiling.{Tiles, IsHeap}
+use Rattle.two_heaps.specs.Tiling.Tiles.{end, last_hole}
 use Rattle.two_heaps.proofs.Ordered.{either, replaced_count}
 use Rattle.two_heaps.proofs.Tilings.{fits, take_tiles, give_tiles}
 

@@ -1,6 +1,6 @@
 -- A block among the holes, merged with those that it touches: an element of the list at a time.
-use Rattle.std.proofs.Common.{◌≡◌, ℕ, ◌+◌, ◌-◌, ◌<◌, ◌≤◌, cond, eqb, ltb, Option, Some, None, List, [], ◌∷◌, ◌++◌, refl, sym, ◌∙◌, ap, arith}
-use Rattle.std.specs.Prelude.{filter, find}
+use Rattle.std.proofs.Common.{◌≡◌, ℕ, ◌+◌, ◌<◌, ◌≤◌, eqb, ltb, None, List, [], ◌∷◌, ◌++◌, refl, ◌∙◌, ap, arith}
+use Rattle.std.specs.Prelude.{find}
 use Rattle.std.specs.Option.{option_map_or}
 use Rattle.std.proofs.lemmas.Bool.{lt-ltb, le-ltb, eq-eqb, ne_eqb}
 use Rattle.cv_word.specs.Heap.{Span, end_of, span_between, starting_above, ending_below, free_from, free_to, merged}
@@ -48,7 +48,7 @@ pub merged_skip : (block x : Span) (xs : List Span) → x.at ≤ end_of x → en
 merged_skip block x xs le lt =
     let lower : ending_below block.at (x ∷ xs) ≡ x ∷ ending_below block.at xs = kept (λ span. ltb (end_of span) block.at) x xs (lt-ltb (end_of x) block.at lt) in
     let begins : free_from block.at (x ∷ xs) ≡ free_from block.at xs =
-        ap (λ o. option_map_or (λ (hole : Span). hole.at) o block.at) (passed_by (λ span. eqb (end_of span) block.at) x xs (ne_eqb (end_of x) block.at (λ e. omega arith))) in
+    ap (λ o. option_map_or (λ (hole : Span). hole.at) o block.at) (passed_by (λ span. eqb (end_of span) block.at) x xs (ne_eqb (end_of x) block.at (λ e. omega arith))) in
     let ends : free_to (end_of block) (x ∷ xs) ≡ free_to (end_of block) xs = free_to_skip (end_of block) x xs (omega arith) in
     let upper : starting_above (end_of block) (x ∷ xs) ≡ starting_above (end_of block) xs = above_skip (end_of block) x xs (omega arith) in
     ap (λ l. l ++ span_between (free_from block.at (x ∷ xs)) (free_to (end_of block) (x ∷ xs)) ∷ starting_above (end_of block) (x ∷ xs)) lower
@@ -69,9 +69,9 @@ pub merged_onto : (gap from : ℕ) (block x : Span) (xs : List Span) → 0 < x.l
     merged block (x ∷ xs) ≡ span_between x.at (free_to (end_of block) xs) ∷ starting_above (end_of block) xs
 merged_onto gap from block x xs some out e le r =
     let lower : ending_below block.at (x ∷ xs) ≡ [] =
-        left_out (λ span. ltb (end_of span) block.at) x xs (le-ltb (end_of x) block.at (omega arith)) ∙ none_ending_below gap from block.at xs le r in
+    left_out (λ span. ltb (end_of span) block.at) x xs (le-ltb (end_of x) block.at (omega arith)) ∙ none_ending_below gap from block.at xs le r in
     let begins : free_from block.at (x ∷ xs) ≡ x.at =
-        ap (λ o. option_map_or (λ (hole : Span). hole.at) o block.at) (found (λ span. eqb (end_of span) block.at) x xs (eq-eqb (end_of x) block.at e)) in
+    ap (λ o. option_map_or (λ (hole : Span). hole.at) o block.at) (found (λ span. eqb (end_of span) block.at) x xs (eq-eqb (end_of x) block.at e)) in
     let ends : free_to (end_of block) (x ∷ xs) ≡ free_to (end_of block) xs = free_to_skip (end_of block) x xs (omega arith) in
     let upper : starting_above (end_of block) (x ∷ xs) ≡ starting_above (end_of block) xs = above_skip (end_of block) x xs (omega arith) in
     ap (λ l. l ++ span_between (free_from block.at (x ∷ xs)) (free_to (end_of block) (x ∷ xs)) ∷ starting_above (end_of block) (x ∷ xs)) lower

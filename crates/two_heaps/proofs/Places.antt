@@ -1,16 +1,16 @@
 -- Places in a list of spans by offset: where a binary search ends, and what stands before and behind it.
-use Rattle.std.proofs.Common.{◌≡◌, ℕ, zero, suc, ◌+◌, ◌-◌, ◌<◌, ◌≤◌, ◌⊎◌, inl, inr, Bool, true, false, cond, eqb, ltb, leb, Option, Some, None, List, [], ◌∷◌, ◌++◌, length, get_or, take, drop, set, refl, sym, ◌∙◌, ap, subst, arith, length-append, append_assoc, length-drop}
-use Rattle.std.specs.Prelude.{filter, find, position}
+use Rattle.std.proofs.Common.{◌≡◌, ℕ, zero, suc, ◌+◌, ◌-◌, ◌<◌, ◌≤◌, ◌⊎◌, inl, inr, Bool, true, false, cond, eqb, ltb, Some, None, List, [], ◌∷◌, ◌++◌, length, get_or, take, drop, set, refl, sym, ◌∙◌, ap, subst, arith, append_assoc, length-drop}
+use Rattle.std.specs.Prelude.{find, position}
 use Rattle.std.specs.List.{AllWithin, position_or_len, insert, remove}
-use Rattle.std.specs.List.Sorted.{IsNonDecreasingBy, IsPartitionPoint}
+use Rattle.std.specs.List.Sorted.{IsNonDecreasingBy}
 use Rattle.std.specs.Option.{option_map_or}
-use Rattle.std.proofs.lemmas.Bool.{cases_lt, cases_eq, cases_Bool, lt-ltb, le-ltb, ltb-true, ltb-false, eq-eqb, ne_eqb, eqb-true}
-use Rattle.std.proofs.lemmas.Option.{none-some, same_Some, cond_some, slice_get-get_or, slice_get_past}
+use Rattle.std.proofs.lemmas.Bool.{cases_lt, lt-ltb, le-ltb, ltb-true, ltb-false, eq-eqb, ne_eqb, eqb-true}
+use Rattle.std.proofs.lemmas.Option.{none-some, cond_some, slice_get-get_or, slice_get_past}
 use Rattle.std.proofs.lemmas.List.{take_more_set, drop-set-lt, set_split, get_or_default, drop_more, get_or-drop}
 use Rattle.std.proofs.lemmas.List.Folds.{find_at}
-use Rattle.cv_word.specs.Heap.{Span, end_of, span_between, starting_below, starting_above, ending_below, free_from, free_to, hole_between, replaced_at, merged}
+use Rattle.cv_word.specs.Heap.{Span, end_of, span_between, starting_below, starting_above, ending_below, free_from, free_to, hole_between, replaced_at}
 use Rattle.two_heaps.specs.Kept.{Rises, Avoids, IsPlace, MayJoin, begins}
-use Rattle.two_heaps.proofs.Ordered.{either, find_passes, rises_at, kept, left_out, found, passed_by, none_below, none_at, all_above, replaced_here}
+use Rattle.two_heaps.proofs.Ordered.{either, find_passes, rises_at, kept, left_out, found, passed_by, none_below, none_at, all_above}
 use Rattle.two_heaps.proofs.Merging.{above_skip, above_first, free_to_none, free_to_first, free_from_none, none_ending_below}
 
 -- ---- where a binary search ends
@@ -88,7 +88,7 @@ none_begins gap at (y ∷ ys) r ne =
     let lt : at < y.at = omega (arith, r.0, not_here) in
     let up : Rises gap y.at (y ∷ ys) = (omega arith, r.1, r.2) in
     let none : find (begins at) (y ∷ ys) ≡ None =
-        passed_by (begins at) y ys (ne_eqb y.at at not_here) ∙ none_above gap at y ys lt r.1 r.2 in
+    passed_by (begins at) y ys (ne_eqb y.at at not_here) ∙ none_above gap at y ys lt r.1 r.2 in
     (all_above gap y.at at (y ∷ ys) lt up, none, free_to_none gap y.at at (y ∷ ys) lt up)
 
 -- ---- replacing the span at a place
@@ -133,16 +133,14 @@ position_fails p xs e =
 pub ends_at : (from at : ℕ) (xs : List Span) (i : ℕ) (d : Span) → Rises 1 from xs → i < length xs → end_of (get_or xs i d) ≡ at →
     (ending_below at xs ≡ take i xs) × (free_from at xs ≡ (get_or xs i d).at)
 ends_at from at [] i d r lt e = absurd (omega arith)
-ends_at from at (x ∷ xs) zero d r lt e =
-    (
-      left_out (λ s. ltb (end_of s) at) x xs (le-ltb (end_of x) at (omega arith)) ∙ none_ending_below 1 (end_of x + 1) at xs (omega arith) r.2,
-      ap (λ o. option_map_or (λ (hole : Span). hole.at) o at) (found (λ s. eqb (end_of s) at) x xs (eq-eqb (end_of x) at e)),
-    )
+ends_at from at (x ∷ xs) zero d r lt e = (
+  left_out (λ s. ltb (end_of s) at) x xs (le-ltb (end_of x) at (omega arith)) ∙ none_ending_below 1 (end_of x + 1) at xs (omega arith) r.2,
+  ap (λ o. option_map_or (λ (hole : Span). hole.at) o at) (found (λ s. eqb (end_of s) at) x xs (eq-eqb (end_of x) at e)),
+)
 ends_at from at (x ∷ xs) (suc i) d r lt e =
     let low = rises_at 1 (end_of x + 1) xs i d r.2 (omega arith) in
     let less : end_of x < at = omega (arith, low.0) in
-    let h = ends_at (end_of x + 1) at xs i d r.2 (omega arith) e in
-    (
+    let h = ends_at (end_of x + 1) at xs i d r.2 (omega arith) e in (
       kept (λ s. ltb (end_of s) at) x xs (lt-ltb (end_of x) at less) ∙ ap (λ l. x ∷ l) h.0,
       ap (λ o. option_map_or (λ (hole : Span). hole.at) o at) (passed_by (λ s. eqb (end_of s) at) x xs (ne_eqb (end_of x) at (λ same. omega arith))) ∙ h.1,
     )
@@ -162,8 +160,7 @@ none_ends from at xs zero r le rest below =
 none_ends from at [] (suc i) r le rest below = absurd (omega arith)
 none_ends from at (x ∷ xs) (suc i) r le rest below =
     let h = none_ends (end_of x + 1) at xs i r.2 (omega arith) rest (λ j d e. below (suc j) d (ap suc e)) in
-    let less : end_of x < at = first_below at x xs i r.2 (omega arith) below in
-    (
+    let less : end_of x < at = first_below at x xs i r.2 (omega arith) below in (
       kept (λ s. ltb (end_of s) at) x xs (lt-ltb (end_of x) at less) ∙ ap (λ l. x ∷ l) h.0,
       ap (λ o. option_map_or (λ (hole : Span). hole.at) o at) (passed_by (λ s. eqb (end_of s) at) x xs (ne_eqb (end_of x) at (λ same. omega arith))) ∙ h.1,
     )
@@ -180,10 +177,10 @@ pub ends_lower : (at : ℕ) (xs : List Span) (place : ℕ) (hole : Span) → Ris
 ends_lower at xs place hole r is some read less =
     let within = is.within in
     let last : (j : ℕ) (d : Span) → suc j ≡ place → end_of (get_or xs j d) < at =
-        λ j d e.
-        let same : get_or xs j d ≡ hole =
-            get_or_default xs j d hole (omega arith) ∙ ap (λ n. get_or xs n hole) (let h : j ≡ place - 1 = omega arith in h) ∙ sym read in
-        omega (arith, ap end_of same) in
+    λ j d e.
+    let same : get_or xs j d ≡ hole =
+    get_or_default xs j d hole (omega arith) ∙ ap (λ n. get_or xs n hole) (let h : j ≡ place - 1 = omega arith in h) ∙ sym read in
+    omega (arith, ap end_of same) in
     let h = none_ends 0 at xs place r within is.rest last in
     (sym h.0, sym h.1)
 
@@ -209,8 +206,7 @@ pub begins_here : (at : ℕ) (xs : List Span) (place : ℕ) (hole : Span) → Is
     (drop (place + 1) xs ≡ starting_above at xs) × (end_of hole ≡ free_to at xs)
 begins_here at xs place hole is lt read e =
     let split : drop place xs ≡ hole ∷ drop (place + 1) xs = drop_more xs place hole lt ∙ ap (λ s. s ∷ drop (place + 1) xs) (sym read) in
-    let rest : Rises 1 at (hole ∷ drop (place + 1) xs) = subst (Rises 1 at) split is.rest in
-    (
+    let rest : Rises 1 at (hole ∷ drop (place + 1) xs) = subst (Rises 1 at) split is.rest in (
       sym (is.above ∙ ap (starting_above at) split ∙ above_first 1 at hole (drop (place + 1) xs) e (omega (arith, rest.1)) rest.2),
       sym (free_to_at_place at xs place is ∙ ap (free_to at) split ∙ free_to_first at hole (drop (place + 1) xs) e),
     )
@@ -233,10 +229,10 @@ placed block xs r avoids some =
     let i = length (starting_below block.at xs) in
     let is = place 0 0 block.at xs r in
     let none = none_begins 0 block.at (drop i xs) is.rest
-        (rest_begins block.at xs i
-        (λ d within here.
-            let inside = rises_at 0 0 xs i d r within in
-            elim (avoids i d within) [ inl before ↦ omega (arith, inside.1, here) | inr behind ↦ omega (arith, here) ])) in
+    (rest_begins block.at xs i
+    (λ d within here.
+    let inside = rises_at 0 0 xs i d r within in
+    elim (avoids i d within) [ inl before ↦ omega (arith, inside.1, here) | inr behind ↦ omega (arith, here) ])) in
     sym (ap (λ l. l ++ (block ∷ starting_above block.at xs)) is.front ∙ ap (λ l. take i xs ++ block ∷ l) (is.above ∙ none.0))
 
 -- ---- a hole cut
@@ -248,7 +244,7 @@ pub cut_items : (xs : List Span) (place : ℕ) (hole : Span) (size at len : ℕ)
     set xs place (record { at = at + size; len = len - size }) ≡ take place xs ++ (hole_between (hole.at + size) (end_of hole) ++ drop (place + 1) xs)
 cut_items xs place hole size at len lt less same_at same_len =
     let some : hole_between (hole.at + size) (end_of hole) ≡ span_between (hole.at + size) (end_of hole) ∷ [] =
-        ap (λ b. cond b (span_between (hole.at + size) (end_of hole) ∷ []) []) (lt-ltb (hole.at + size) (end_of hole) (omega arith)) in
+    ap (λ b. cond b (span_between (hole.at + size) (end_of hole) ∷ []) []) (lt-ltb (hole.at + size) (end_of hole) (omega arith)) in
     let begin : at + size ≡ hole.at + size = omega arith in
     let long : len - size ≡ end_of hole - (hole.at + size) = omega arith in
     let made : Span = record { at = at + size; len = len - size } in
@@ -319,7 +315,7 @@ pub join_place_behind : (block : Span) (xs : List Span) (at to i : ℕ) → MayJ
 join_place_behind block xs at to i may e g count =
     let P : ℕ → Type 0 = λ n. IsPlace 1 n xs i in
     let same : length (starting_below (end_of block) xs) ≡ i =
-        ap length (same_place 1 0 block xs may.rises may.avoids) ∙ ap (λ n. length (starting_below n xs)) (sym e) ∙ sym count in
+    ap length (same_place 1 0 block xs may.rises may.avoids) ∙ ap (λ n. length (starting_below n xs)) (sym e) ∙ sym count in
     subst P (sym g) (subst (IsPlace 1 (end_of block) xs) same (place 1 0 (end_of block) xs may.rises))
 
 pub join_apart : (block : Span) (xs : List Span) (at i : ℕ) → MayJoin xs block → at ≡ block.at → i ≡ length (starting_below at xs) → (k : ℕ) (d : Span) → 0 ≤ k → k < i → end_of (get_or xs k d) ≤ at

@@ -1,5 +1,5 @@
 -- The definitions at heaps small enough to follow by hand.
-use Rattle.std.proofs.Common.{◌≡◌, ℕ, ◌+◌, ◌-◌, ◌*◌, ◌^◌, Bool, true, false, Option, Some, None, List, [], ◌∷◌, replicate, refl}
+use Rattle.std.proofs.Common.{◌≡◌, ℕ, ◌-◌, ◌^◌, true, false, Some, None, List, [], ◌∷◌, replicate, refl}
 use Rattle.cv_word.specs.Heap.{Span, Heap, fresh_heap, block_size, hole_for, taken_at, after_take, block_at, gives, after_give}
 
 abbrev span : ℕ → ℕ → Span

@@ -1,18 +1,17 @@
 -- What the calls of a heap find, and what they leave, over the lists of a heap.
-use Rattle.std.proofs.Common.{◌≡◌, ℕ, zero, suc, ◌+◌, ◌-◌, ◌^◌, ◌<◌, ◌≤◌, ◌⊎◌, ◌||◌, inl, inr, Bool, true, false, cond, eqb, leb, Option, Some, None, List, [], ◌∷◌, ◌++◌, length, get_or, take, drop, refl, sym, ◌∙◌, ap, subst, arith}
+use Rattle.std.proofs.Common.{◌≡◌, ℕ, suc, ◌+◌, ◌^◌, ◌<◌, ◌≤◌, ◌⊎◌, ◌||◌, inl, inr, Bool, false, cond, eqb, leb, Option, Some, None, List, [], ◌∷◌, ◌++◌, length, get_or, take, drop, sym, ◌∙◌, ap, subst, arith}
 use Rattle.std.specs.Prelude.{find, position, All, is_some}
 use Rattle.std.specs.List.{remove}
-use Rattle.std.proofs.lemmas.Bool.{cases_Bool, cases_lt, leb-true, leb-false, eqb-true, or_cases, le-leb, lt-leb, eq-eqb, ne_eqb, or_from, or_left, or_right}
-use Rattle.std.proofs.lemmas.Option.{none-some, same_Some}
+use Rattle.std.proofs.lemmas.Bool.{cases_Bool, leb-true, leb-false, eqb-true, or_cases, le-leb, lt-leb, eq-eqb, ne_eqb, or_from, or_left, or_right}
 use Rattle.std.proofs.lemmas.List.Elements.{All-contains, All-get_or, All-weaker}
-use Rattle.std.proofs.lemmas.List.{drop_more, get_or-drop, get_or_default}
-use Rattle.cv_word.specs.Heap.{Span, end_of, hole_between, starting_below, Heap, most_blocks, block_size, hole_for, with_block, taken_at, after_take, block_at, without_block, gives, after_give, replaced_at, merged}
+use Rattle.std.proofs.lemmas.List.{drop_more, get_or_default}
+use Rattle.cv_word.specs.Heap.{Span, end_of, hole_between, starting_below, Heap, most_blocks, block_size, hole_for, with_block, block_at, without_block, gives, replaced_at, merged}
 use Rattle.two_heaps.specs.Tiling.{IsHeap, IsRefused}
-use Rattle.two_heaps.specs.Kept.{Rises, Avoids, IsPlace, MayJoin, begins, IsSmallHeap, HasRoom, IsFirstFit}
+use Rattle.two_heaps.specs.Kept.{Rises, Avoids, IsPlace, MayJoin, begins, IsSmallHeap, IsFirstFit}
 use Rattle.two_heaps.proofs.Ordered.{either, found, find_fails, fails_find, find_passes, find_contains, find_from, rises_at, rises_lower}
 use Rattle.two_heaps.proofs.Tilings.{fits, holes_rise, blocks_rise, holes_inside, blocks_inside, holes_count, tiles_apart}
 use Rattle.two_heaps.proofs.Places.{place, position_finds, position_fails, replaced_at_place, none_begins, rest_begins}
-use Rattle.two_heaps.proofs.Laws.{answered, after_answer, after_refusal, taken_answer, taken_refusal, with_block_is_heap, after_gift, after_no_gift, without_block_is_heap, fresh_is_heap}
+use Rattle.two_heaps.proofs.Laws.{answered, with_block_is_heap, without_block_is_heap}
 
 -- ---- the hole for a request
 
@@ -173,7 +172,7 @@ block_begins : (heap : Heap) (at i : ℕ) (block : Span) → IsSmallHeap heap �
 unfolding block_at
 block_begins heap at i block is count within read e =
     let split : drop i heap.blocks ≡ block ∷ drop (i + 1) heap.blocks =
-        drop_more heap.blocks i block within ∙ ap (λ s. s ∷ drop (i + 1) heap.blocks) (sym read) in
+    drop_more heap.blocks i block within ∙ ap (λ s. s ∷ drop (i + 1) heap.blocks) (sym read) in
     (block_place heap at i is count).search ∙ ap (find (begins at)) split ∙ found (begins at) block (drop (i + 1) heap.blocks) (eq-eqb block.at at e)
 
 removed_block : (from i : ℕ) (block : Span) (blocks : List Span) → Rises 0 from blocks → i < length blocks → block ≡ get_or blocks i block →

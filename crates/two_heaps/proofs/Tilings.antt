@@ -1,11 +1,11 @@
 -- Holes and blocks lie end to end, and take and give keep that.
-use Rattle.std.proofs.Common.{◌≡◌, ℕ, zero, suc, ◌+◌, ◌-◌, ◌*◌, ◌/◌, ◌%◌, ◌<◌, ◌≤◌, ◌⊎◌, inl, inr, Bool, true, false, cond, eqb, ltb, leb, Option, Some, None, List, [], ◌∷◌, ◌++◌, length, get_or, refl, sym, ◌∙◌, ap, subst, arith}
-use Rattle.std.specs.Prelude.{filter, find, All}
+use Rattle.std.proofs.Common.{◌≡◌, ℕ, zero, suc, ◌+◌, ◌%◌, ◌<◌, ◌≤◌, ◌⊎◌, inl, inr, Bool, cond, leb, Some, List, [], ◌∷◌, ◌++◌, length, get_or, refl, sym, ◌∙◌, ap, subst, arith}
+use Rattle.std.specs.Prelude.{find, All}
 use Rattle.std.proofs.lemmas.List.Elements.{All-nil, All-cons}
-use Rattle.std.proofs.lemmas.Bool.{cases_lt, cases_eq, cases_Bool, lt-ltb, le-ltb, eq-eqb, ne_eqb, leb-true}
+use Rattle.std.proofs.lemmas.Bool.{cases_lt, cases_Bool, lt-ltb, le-ltb, leb-true}
 use Rattle.std.proofs.lemmas.Option.{same_Some, none-some}
-use Rattle.cv_word.specs.Heap.{Span, end_of, span_between, hole_between, starting_above, free_to, merged, replaced_at, Heap, fresh_heap, most_blocks}
-use Rattle.two_heaps.specs.Tiling.{Fills, Tiles, IsHeap}
+use Rattle.cv_word.specs.Heap.{Span, end_of, span_between, hole_between, starting_above, free_to, merged, replaced_at}
+use Rattle.two_heaps.specs.Tiling.{Fills, Tiles}
 use Rattle.two_heaps.specs.Tiling.Tiles.{end, last_hole, block, hole_and_block}
 use Rattle.two_heaps.specs.Kept.{Rises, begins}
 use Rattle.two_heaps.proofs.Ordered.{found, passed_by, replaced_skip, replaced_first, replaced_here}
@@ -121,12 +121,12 @@ cut_tiles from middle to size hole holes blocks f some le units with_rest withou
     elim (cases_lt size hole.len) [
       | inl lt ↦
           let e : hole_between (hole.at + size) (end_of hole) ≡ span_between (hole.at + size) (end_of hole) ∷ [] =
-              ap (λ b. cond b (span_between (hole.at + size) (end_of hole) ∷ []) []) (lt-ltb (hole.at + size) (end_of hole) (omega arith)) in
+          ap (λ b. cond b (span_between (hole.at + size) (end_of hole) ∷ []) []) (lt-ltb (hole.at + size) (end_of hole) (omega arith)) in
           let P : List Span → Type 0 = λ ss. Tiles from to (ss ++ holes) (record { at = hole.at; len = size } ∷ blocks) in
           subst P (sym e) (block (front_fills from middle size hole f some units) (with_rest (from + size) (span_between (hole.at + size) (end_of hole)) (rest_fills from middle size hole f lt units)))
       | inr ge ↦
           let e : hole_between (hole.at + size) (end_of hole) ≡ [] =
-              ap (λ b. cond b (span_between (hole.at + size) (end_of hole) ∷ []) []) (le-ltb (hole.at + size) (end_of hole) (omega arith)) in
+          ap (λ b. cond b (span_between (hole.at + size) (end_of hole) ∷ []) []) (le-ltb (hole.at + size) (end_of hole) (omega arith)) in
           let P : List Span → Type 0 = λ ss. Tiles from to (ss ++ holes) (record { at = hole.at; len = size } ∷ blocks) in
           let same : from + size ≡ middle = omega (arith, l.2) in
           let Q : ℕ → Type 0 = λ n. Tiles n to holes blocks in

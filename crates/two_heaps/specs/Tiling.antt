@@ -1,5 +1,5 @@
 -- What every heap is: from its start to its end, holes and blocks lie end to end. And what follows, offset by offset.
-use Rattle.std.specs.Prelude.{◌≡◌, ℕ, ◌+◌, ◌%◌, ◌<◌, ◌≤◌, ◌⊎◌, List, [], ◌∷◌, length, All, Any, AllPairs, Option, Some}
+use Rattle.std.specs.Prelude.{◌≡◌, ℕ, ◌+◌, ◌%◌, ◌<◌, ◌≤◌, ◌⊎◌, List, [], ◌∷◌, length, All, Any, AllPairs, Some}
 use Rattle.cv_word.specs.Heap.{Span, end_of, Heap, most_blocks, block_size, taken_at}
 
 -- a span takes the bytes from one offset up to another: some, and a multiple of 16

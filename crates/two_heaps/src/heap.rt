@@ -64,7 +64,13 @@ impl Heap {
         };
         let hole = self.holes[place];
         cut(&mut self.holes, place, hole, size);
-        place_block(&mut self.blocks, Hole { at: hole.at, len: size });
+        place_block(
+            &mut self.blocks,
+            Hole {
+                at: hole.at,
+                len: size,
+            },
+        );
         hole.at
     }
 

@@ -12,5 +12,4 @@ pub fn heap_law()
     ensures give { (start to at : ℕ) (heap : Heap) → IsHeap start to heap → IsHeap start to (after_give heap at) }
     ensures covered { (start to : ℕ) (heap : Heap) → IsHeap start to heap → IsCovered start to heap }
     ensures free { (start to n : ℕ) (heap : Heap) → IsHeap start to heap → IsFree heap n }
-{
-}
+{}

@@ -78,7 +78,10 @@ fn answers_by_hand(rt: HostRuntime) -> Result<(), Fail> {
     let mut merges = Heap::new(rt.alloc(), 16, 144)?;
     answers(&rt, &mut merges, &MERGES);
     assert_eq!(rt; merges.holes().len(), 1);
-    assert_eq!(rt; merges.holes().first().copied(), Some(Hole { at: 96, len: 16 }));
+    assert_eq!(rt;
+        merges.holes().first().copied(),
+        Some(Hole { at: 96, len: 16 })
+    );
     let mut none = Heap::new(rt.alloc(), 4096, 4096)?;
     assert_eq!(rt; none.holes().len(), 0);
     assert_eq!(rt; none.take(1), 0);
@@ -183,7 +186,11 @@ fn runs_like_a_list_of_units(rt: HostRuntime) -> Result<(), Fail> {
         if word % 2 == 0 {
             let n = word / 2 % 200;
             let wanted = n.div_ceil(16) as usize;
-            let unit = if n == 0 { None } else { first_run(&units, wanted) };
+            let unit = if n == 0 {
+                None
+            } else {
+                first_run(&units, wanted)
+            };
             let at = match unit {
                 Some(unit) => unit.saturating_mul(16).saturating_add(4096),
                 None => 0,

@@ -12,7 +12,7 @@ pub returns-then-end-at-clause-from : goal.returns-then-end-at-clause-from
 returns-then-end-at-clause-from c =
     ap (λ span. span.at) c.hole.view_is
     ∙ (ends_here c.args.at c.args.holes.now c.args.place c.index-holes-place.result c.requires.rises (omega arith) c.requires.place.within c.index-holes-place.is
-      (sym c.end.ensures ∙ c.if-end-at.true)).1
+    (sym c.end.ensures ∙ c.if-end-at.true)).1
 
 pub returns-else-end-at-clause-first : goal.returns-else-end-at-clause-first
 returns-else-end-at-clause-first c =

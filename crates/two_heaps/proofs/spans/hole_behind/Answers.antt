@@ -1,4 +1,4 @@
-use Rattle.std.proofs.Common.{arith, ap, ◌∙◌, sym}
+use Rattle.std.proofs.Common.{ap, ◌∙◌, sym}
 use Rattle.two_heaps.proofs.Places.{begins_here, begins_other}
 use Rattle.two_heaps.proofs.spans.hole_behind.Goals as goal
 

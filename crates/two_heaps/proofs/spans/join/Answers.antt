@@ -1,5 +1,5 @@
 use Rattle.std.proofs.Common.{arith, ap, ◌∙◌, sym, List, ℕ, ◌≤◌, ◌<◌, subst, length, get_or}
-use Rattle.cv_word.specs.Heap.{Span, end_of, starting_below, free_from, free_to}
+use Rattle.cv_word.specs.Heap.{Span, end_of, starting_below}
 use Rattle.two_heaps.specs.Kept.{Rises, IsPlace}
 use Rattle.two_heaps.proofs.Ordered.{rises_closer}
 use Rattle.two_heaps.proofs.Places.{join_place, join_place_behind, join_apart, free_from_low, free_to_high}

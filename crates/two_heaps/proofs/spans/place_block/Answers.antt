@@ -1,4 +1,4 @@
-use Rattle.std.proofs.Common.{arith, ap, ◌∙◌, sym, length}
+use Rattle.std.proofs.Common.{arith, ap, ◌∙◌, length}
 use Rattle.std.specs.List.{insert}
 use Rattle.cv_word.specs.Heap.{starting_below}
 use Rattle.two_heaps.proofs.Places.{place, placed}
@@ -14,7 +14,7 @@ insert-requires-clause-within c =
 pub returns-clause-items : goal.returns-clause-items
 returns-clause-items c =
     let count =
-        c.place_of-place.ensures ∙ ap (λ l. length (starting_below c.block.inside.at l)) c.deref.ensures.value
-        ∙ ap (λ n. length (starting_below n c.args.blocks.now.items)) (ap (λ span. span.at) c.block.view_is) in
+    c.place_of-place.ensures ∙ ap (λ l. length (starting_below c.block.inside.at l)) c.deref.ensures.value
+    ∙ ap (λ n. length (starting_below n c.args.blocks.now.items)) (ap (λ span. span.at) c.block.view_is) in
     c.insert.ensures.items ∙ ap (λ n. insert c.args.blocks.now.items n c.args.block) count
     ∙ placed c.args.block c.args.blocks.now.items c.requires.rises c.requires.avoids c.requires.some

@@ -1,8 +1,7 @@
-use Rattle.std.proofs.Common.{◌≡◌, ℕ, ◌≤◌, ◌<◌, inl, inr, arith, ap, ◌∙◌, sym, refl, None, Some, true, subst, List, get_or, length}
+use Rattle.std.proofs.Common.{◌≡◌, ℕ, ◌<◌, inl, inr, arith, ap, ◌∙◌, sym, None, Some, subst, List, length}
 use Rattle.std.proofs.lemmas.List.{get_or_default}
-use Rattle.std.specs.List.{remove}
-use Rattle.cv_word.specs.Heap.{Heap, Span, starting_below, block_at, gives, after_give, without_block, merged}
-use Rattle.two_heaps.specs.Kept.{Rises, IsSmallHeap, MayJoin}
+use Rattle.cv_word.specs.Heap.{Heap, Span, starting_below, block_at, without_block, merged}
+use Rattle.two_heaps.specs.Kept.{Rises, IsSmallHeap}
 use Rattle.two_heaps.proofs.Ordered.{rises_lower, below_length}
 use Rattle.two_heaps.proofs.Tilings.{blocks_rise}
 use Rattle.two_heaps.proofs.Steps.{Gives, gives_block, gives_is, no_block_read, same_heap}
@@ -36,26 +35,26 @@ pub returns-then-place-len-clause-answer : goal.returns-then-place-len-clause-an
 returns-then-place-len-clause-answer c =
     let P : Heap → Type 0 = λ h. block_at h c.args.at ≡ None in
     let none = subst P c.self.view_is
-        (no_block_read (record { holes = c.self.inside.holes.items; blocks = c.self.inside.blocks.items }) c.args.at c.place_of-place.result c.len.result c.self.invariant.0
-        (c.place_of-place.ensures ∙ ap (λ l. length (starting_below c.args.at l)) c.deref.ensures.value) (c.len.ensures ∙ c.self.inside.blocks.ok.0)
-        (elim c.then-place-len.branch [
-          | then-place-len-via-then-place-len w ↦ inl w.if-place-len.true
-          | then-place-len-via-else-place-len+then-index-at w ↦
-              inr (w.index.result.now, w.index.ensures, λ same. w.if-index-at.true (ap (λ span. span.at) w.behind-self.view_is ∙ same))
-        ])) in
+    (no_block_read (record { holes = c.self.inside.holes.items; blocks = c.self.inside.blocks.items }) c.args.at c.place_of-place.result c.len.result c.self.invariant.0
+    (c.place_of-place.ensures ∙ ap (λ l. length (starting_below c.args.at l)) c.deref.ensures.value) (c.len.ensures ∙ c.self.inside.blocks.ok.0)
+    (elim c.then-place-len.branch [
+      | then-place-len-via-then-place-len w ↦ inl w.if-place-len.true
+      | then-place-len-via-else-place-len+then-index-at w ↦
+          inr (w.index.result.now, w.index.ensures, λ same. w.if-index-at.true (ap (λ span. span.at) w.behind-self.view_is ∙ same))
+    ])) in
     sym (gives_is c.args.self.now c.args.at None none)
 
 pub returns-then-place-len-clause-after : goal.returns-then-place-len-clause-after
 returns-then-place-len-clause-after c =
     let P : Heap → Type 0 = λ h. block_at h c.args.at ≡ None in
     let none = subst P c.self.view_is
-        (no_block_read (record { holes = c.self.inside.holes.items; blocks = c.self.inside.blocks.items }) c.args.at c.place_of-place.result c.len.result c.self.invariant.0
-        (c.place_of-place.ensures ∙ ap (λ l. length (starting_below c.args.at l)) c.deref.ensures.value) (c.len.ensures ∙ c.self.inside.blocks.ok.0)
-        (elim c.then-place-len.branch [
-          | then-place-len-via-then-place-len w ↦ inl w.if-place-len.true
-          | then-place-len-via-else-place-len+then-index-at w ↦
-              inr (w.index.result.now, w.index.ensures, λ same. w.if-index-at.true (ap (λ span. span.at) w.behind-self.view_is ∙ same))
-        ])) in
+    (no_block_read (record { holes = c.self.inside.holes.items; blocks = c.self.inside.blocks.items }) c.args.at c.place_of-place.result c.len.result c.self.invariant.0
+    (c.place_of-place.ensures ∙ ap (λ l. length (starting_below c.args.at l)) c.deref.ensures.value) (c.len.ensures ∙ c.self.inside.blocks.ok.0)
+    (elim c.then-place-len.branch [
+      | then-place-len-via-then-place-len w ↦ inl w.if-place-len.true
+      | then-place-len-via-else-place-len+then-index-at w ↦
+          inr (w.index.result.now, w.index.ensures, λ same. w.if-index-at.true (ap (λ span. span.at) w.behind-self.view_is ∙ same))
+    ])) in
     sym (after_no_gift c.args.self.now c.args.at none)
 
 -- ---- a block begins there
@@ -95,8 +94,7 @@ invariant_of-self c =
     let same = made d c.join.new.holes.items c.join.ensures.items in
     let room = c.self.invariant.1 in
     let holes = room.holes in
-    let blocks = room.blocks in
-    (
+    let blocks = room.blocks in (
       subst IsSmallHeap (sym same) (facts d).after,
       record { holes = omega (arith, c.join.ensures.capacity); blocks = omega (arith, c.remove-block.ensures.capacity) },
     )

@@ -1,6 +1,6 @@
-use Rattle.std.proofs.Common.{◌≡◌, ◌<◌, ◌≤◌, arith, ap, ◌∙◌, sym, length, None, Some, subst}
+use Rattle.std.proofs.Common.{◌≡◌, arith, ap, ◌∙◌, sym, None, subst}
 use Rattle.std.specs.Prelude.{position}
-use Rattle.cv_word.specs.Heap.{Heap, hole_for, most_blocks}
+use Rattle.cv_word.specs.Heap.{Heap, hole_for}
 use Rattle.two_heaps.specs.Kept.{IsFirstFit}
 use Rattle.two_heaps.proofs.Tilings.{fits}
 use Rattle.two_heaps.proofs.Steps.{none_for_zero, none_for_large, none_where_full, none_that_fits, first_fit_is}

@@ -1,5 +1,5 @@
-use Rattle.std.proofs.Common.{◌≡◌, arith, ap, ◌∙◌, sym, subst, ◌++◌}
-use Rattle.cv_word.specs.Heap.{Heap, hole_between}
+use Rattle.std.proofs.Common.{arith, ap, ◌∙◌, sym, subst, ◌++◌}
+use Rattle.cv_word.specs.Heap.{hole_between}
 use Rattle.two_heaps.specs.Tiling.{IsHeap}
 use Rattle.two_heaps.specs.Kept.{IsSmallHeap}
 use Rattle.two_heaps.proofs.Laws.{fresh_is_heap}
@@ -12,8 +12,7 @@ invariant_of-result c =
     let to = c.args.end in
     let holes = c.push_between.ensures.items ∙ ap (λ l. l ++ hole_between start to) c.in_ok-holes.ensures.items in
     let same = same_heap c.push_between.new.holes.items c.in_ok-blocks.blocks.items _ _ holes c.in_ok-blocks.ensures.items in
-    let limit = c.ranges.end.fits in
-    (
+    let limit = c.ranges.end.fits in (
       subst IsSmallHeap (sym same) (record {
         start = start;
         to = to;

@@ -1,6 +1,6 @@
 use Rattle.std.proofs.Common.{◌≡◌, ℕ, ◌≤◌, ◌<◌, ◌⊎◌, arith, ap, ◌∙◌, sym, refl, None, Some, subst, List, [], ◌∷◌, ◌++◌, ◌+◌, take, drop, get_or, length}
 use Rattle.std.specs.Prelude.{unwrap_or}
-use Rattle.cv_word.specs.Heap.{Heap, Span, end_of, hole_for, taken_at, after_take, with_block, block_size, hole_between, replaced_at}
+use Rattle.cv_word.specs.Heap.{Heap, Span, end_of, hole_for, with_block, block_size, hole_between, replaced_at}
 use Rattle.std.proofs.lemmas.Option.{none-some}
 use Rattle.two_heaps.specs.Kept.{IsSmallHeap, IsFirstFit}
 use Rattle.two_heaps.proofs.Steps.{takes, Takes, same_heap, refused_where_none, none_where_refused}
@@ -81,8 +81,7 @@ invariant_of-self c =
     let same = made d c.cut.new.holes.items c.place_block.new.blocks.items c.hole.inside.at (ap (λ span. span.at) c.hole.view_is) c.cut.ensures.items c.place_block.ensures.items in
     let room = c.self.invariant.1 in
     let holes = room.holes in
-    let blocks = room.blocks in
-    (
+    let blocks = room.blocks in (
       subst IsSmallHeap (sym same) (facts d).after,
       record { holes = omega (arith, c.cut.ensures.capacity); blocks = omega (arith, c.place_block.ensures.capacity) },
     )
