@@ -1,16 +1,16 @@
 -- What is so of every heap, offset by offset.
-use Rattle.std.proofs.Common.{◌≡◌, ℕ, zero, suc, ◌+◌, ◌%◌, ◌<◌, ◌≤◌, ◌⊎◌, inl, inr, Some, List, [], ◌∷◌, length, get_or, refl, sym, ◌∙◌, ap, arith}
-use Rattle.std.specs.Prelude.{All, Any}
-use Rattle.std.proofs.lemmas.Bool.{cases_lt, leb-true}
+use Rattle.std.proofs.Common.{◌≡◌, ℕ, zero, suc, ◌+◌, ◌%◌, ◌<◌, ◌≤◌, ◌⊎◌, inl, inr, Some, None, false, List, [], ◌∷◌, length, get_or, refl, sym, ◌∙◌, ap, arith}
+use Rattle.std.specs.Prelude.{All, Any, find, is_some}
+use Rattle.std.proofs.lemmas.Bool.{cases_lt, leb-true, eqb-true}
 use Rattle.std.proofs.lemmas.Option.{none-some, same_Some}
-use Rattle.std.proofs.lemmas.List.Elements.{All-nil, All-cons}
-use Rattle.cv_word.specs.Heap.{Span, end_of, Heap, block_size, hole_for, taken_at}
+use Rattle.std.proofs.lemmas.List.Elements.{All-nil, All-cons, All-contains}
+use Rattle.cv_word.specs.Heap.{Span, end_of, Heap, block_size, hole_for, taken_at, block_at, gives, after_give}
 use Rattle.two_heaps.specs.Tiling.{Fills, Tiles, IsHeap, Has, IsUnits, IsCovered, IsFree}
 use Rattle.two_heaps.specs.Tiling.Tiles.{end, last_hole, block, hole_and_block}
-use Rattle.two_heaps.specs.Kept.{Rises}
+use Rattle.two_heaps.specs.Kept.{Rises, begins}
 use Rattle.two_heaps.proofs.Ordered.{either, rises_at, find_contains, find_passes}
 use Rattle.two_heaps.proofs.Tilings.{fits, fills_len, holes_rise, blocks_rise, tiles_up, tiles_apart, holes_count}
-use Rattle.two_heaps.proofs.Laws.{answered, taken_answer, taken_refusal}
+use Rattle.two_heaps.proofs.Laws.{answered, taken_answer, taken_refusal, after_no_gift}
 
 here : (P : Span → Type 0) (x : Span) (xs : List Span) → P x → Any P (x ∷ xs)
 here P x xs p = (0, x, omega arith, refl, p)
@@ -121,3 +121,22 @@ pub is_free : (start to n : ℕ) (heap : Heap) → IsHeap start to heap → IsFr
 is_free start to n heap is = record {
   at = λ at offset e low high out. apart start to heap.holes heap.blocks is.tiles offset (free_at start to n at offset heap is e low high) out;
 }
+
+-- no block begins at the heap's end or above
+no_block_beyond : (start to at : ℕ) (heap : Heap) → IsHeap start to heap → to ≤ at → block_at heap at ≡ None
+unfolding block_at
+no_block_beyond start to at heap is le =
+    elim (either (find (begins at) heap.blocks)) [
+      | inl none ↦ none
+      | inr (out, found) ↦
+          let here = eqb-true out.at at (find_passes (begins at) heap.blocks out found) in
+          let fits = All-contains (IsUnits start to) heap.blocks out (block_units start start to heap.holes heap.blocks (omega arith) is.aligned is.tiles) (find_contains (begins at) heap.blocks out found) in
+          let ends = fits.ends in
+          let some = fits.some in
+          absurd (omega arith)
+    ]
+
+pub none_beyond : (start to at : ℕ) (heap : Heap) → IsHeap start to heap → to ≤ at → (gives heap at ≡ false) × (after_give heap at ≡ heap)
+unfolding gives
+none_beyond start to at heap is le =
+    let none = no_block_beyond start to at heap is le in (ap (λ o. is_some o) none, after_no_gift heap at none)

@@ -1,4 +1,4 @@
-mod Rows
+mod ByHand
 pub mod Ordered
 pub mod Merging
 pub mod Tilings

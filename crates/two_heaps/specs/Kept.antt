@@ -15,7 +15,7 @@ Avoids span spans = All (λ other. (end_of other ≤ span.at) ⊎ (end_of span �
 abbrev pub begins : ℕ → Span → Bool
 begins at span = span.at == at
 
--- the place of an offset in a list of spans: how many begin below it, and what is so of the others
+-- so many spans of a list begin below an offset: they are the list's front, and what begins at the offset or above, the rest
 pub record IsPlace (gap at : ℕ) (spans : List Span) (place : ℕ) : Type 0 where
   pub within : place ≤ length spans
   pub front : starting_below at spans ≡ take place spans

@@ -20,7 +20,7 @@ pub data Tiles : ℕ → ℕ → List Span → List Span → Type 0 where
       → Fills from middle hole → Fills middle next block → Tiles next to holes blocks
       → Tiles from to (hole ∷ holes) (block ∷ blocks)
 
--- a heap from a start to an end: both at multiples of 16, and no more blocks out than may be
+-- a heap from a start, a multiple of 16, to an end: no more blocks are out than may be
 pub record IsHeap (start to : ℕ) (heap : Heap) : Type 0 where
   pub aligned : start % 16 ≡ 0
   pub tiles : Tiles start to heap.holes heap.blocks
@@ -32,7 +32,7 @@ pub record IsHeap (start to : ℕ) (heap : Heap) : Type 0 where
 abbrev pub Has : ℕ → Span → Type 0
 Has offset span = (span.at ≤ offset) × (offset < end_of span)
 
--- each span begins at a multiple of 16 and takes some multiple of 16 bytes, inside the heap
+-- a span lies inside the heap, begins at a multiple of 16 and has a multiple of 16 bytes, but not none
 pub record IsUnits (start to : ℕ) (span : Span) : Type 0 where
   pub inside : start ≤ span.at
   pub ends : end_of span ≤ to

@@ -29,7 +29,7 @@ pub type Block = Hole;
 
 impl Hole {
     /// The offset behind the last byte.
-    pub fn end(self) -> u32
+    pub(crate) fn end(self) -> u32
         requires { end_of self < 2 ^ 32 }
         ensures { result ≡ end_of self }
     {

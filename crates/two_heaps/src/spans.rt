@@ -99,8 +99,8 @@ pub fn place_block(blocks: &mut Vec<Block>, block: Block)
     insert(blocks, place, block);
 }
 
-/// How many of the holes end below an offset, of which so many begin below it, and where the one begins that
-/// ends there, or else the offset.
+/// For an offset below which so many holes begin: how many end below it, and where the hole begins that ends there, or
+/// else the offset.
 fn hole_before(holes: &[Hole], place: usize, at: u32) -> (usize, u32)
     requires rises { Rises 1 0 holes.now }
     requires place { IsPlace 1 at holes.now place }
@@ -118,8 +118,8 @@ fn hole_before(holes: &[Hole], place: usize, at: u32) -> (usize, u32)
     (place, at)
 }
 
-/// Where the holes begin that begin above an offset, below which so many begin, and where the one ends that begins
-/// there, or else the offset.
+/// For an offset below which so many holes begin: the place of the first that begins above it, and where the hole ends
+/// that begins there, or else the offset.
 fn hole_behind(holes: &[Hole], place: usize, at: u32) -> (usize, u32)
     requires place { IsPlace 1 at holes.now place }
     requires small { All (λ hole. end_of hole < 2 ^ 32) holes.now }
