@@ -3,3 +3,4 @@ pub mod Words
 pub mod Arithmetic
 pub mod MemoryMap
 pub mod Gates
+pub mod Heap
