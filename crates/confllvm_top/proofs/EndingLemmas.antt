@@ -1,5 +1,5 @@
 -- What the end of a command says, and how one comes about.
-use Rattle.std.proofs.Common.{◌≡◌, ◌∙◌, ◌++◌, ℕ, ◌⊎◌, inl, inr, Bool, true, false, List, [], Option, Some, None, refl, sym, ap, subst}
+use Rattle.std.proofs.Common.{◌≡◌, ◌∙◌, ℕ, ◌⊎◌, inl, inr, Bool, true, false, List, [], Option, Some, None, refl, sym, ap, subst}
 use Rattle.std.proofs.lemmas.List.{append-nil}
 use Rattle.std.proofs.Math.Seq.{take-nil}
 use Rattle.cv_io.specs.Output.{appended, AppendsFront}
@@ -12,8 +12,7 @@ use Rattle.confllvm_top.specs.Lines.{no_memory_line, store_fault_line}
 use Rattle.confllvm_top.specs.Statuses.{is_passed, is_told}
 use Rattle.confllvm_top.specs.Streams.{Stream, HasGot, HasGotNothing, HasGotFront, HasFailed, MayHaveGot}
 use Rattle.confllvm_top.specs.Answers.{Answers, IsAnswer}
-use Rattle.confllvm_top.specs.Endings.{Ends, HasTold, HasEnded, HasFailedToEnd, WasCutOff, IsChecked, IsFault, AreLoaded, TellsNamed}
-use Rattle.confllvm_top.proofs.OneAnswer.{one_command, one_file}
+use Rattle.confllvm_top.specs.Endings.{Ends, HasTold, WasCutOff, IsChecked}
 
 -- a piece of no bytes leaves a sink's bytes as they were
 pub appended_nothing : (told : Option (List ℕ)) → appended told [] ≡ told

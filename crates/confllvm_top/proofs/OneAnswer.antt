@@ -1,5 +1,5 @@
 -- A command line says one command, and a command has one answer to bytes.
-use Rattle.std.proofs.Common.{◌≡◌, ◌∙◌, ℕ, ◌⊎◌, inl, inr, true, List, [], ◌∷◌, length, codes, refl, sym, ap, subst, Option, Some}
+use Rattle.std.proofs.Common.{◌≡◌, ◌∙◌, ℕ, ◌⊎◌, inl, inr, List, [], ◌∷◌, length, codes, refl, sym, ap, subst, Option, Some}
 use Rattle.std.specs.Prelude.{fold}
 use Rattle.cv_io.specs.Files.{Files, HasFile}
 use Rattle.image_form.specs.Image.{Image}
@@ -15,7 +15,7 @@ use Rattle.x64_machine.specs.Entries.{entries}
 use Rattle.confllvm_top.specs.declared.status.Status.{Status}
 use Rattle.confllvm_top.specs.declared.status.Status.TheVariants.{Done, Refused, Usage, StoreFault, SinkFault, Fault, Steps, NoMemory}
 use Rattle.confllvm_top.specs.Numbers.{with_digit}
-use Rattle.confllvm_top.specs.Commands.{Command, Verify, Run, IsVerify, IsRun, IsCommand, name_of}
+use Rattle.confllvm_top.specs.Commands.{Command, Verify, Run, IsCommand}
 use Rattle.confllvm_top.specs.Running.{RunsTo, status_of}
 use Rattle.confllvm_top.specs.Answers.{Answers}
 

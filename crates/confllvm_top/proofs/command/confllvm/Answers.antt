@@ -1,4 +1,4 @@
-use Rattle.std.proofs.Common.{rules, ap, ◌∙◌}
+use Rattle.std.proofs.Common.{rules}
 use Rattle.confllvm_top.specs.Streams.{stream}
 use Rattle.confllvm_top.specs.Words.{command_of}
 use Rattle.confllvm_top.proofs.EndingLemmas.{ended-checked, store_fault_under}

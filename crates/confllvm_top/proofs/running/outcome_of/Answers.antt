@@ -1,4 +1,4 @@
-use Rattle.std.proofs.Common.{rules, ap}
+use Rattle.std.proofs.Common.{ap}
 use Rattle.image_form.specs.Image.{Image}
 use Rattle.confllvm_top.proofs.RunLemmas.{runs_to}
 use Rattle.confllvm_top.proofs.running.outcome_of.Goals as goal

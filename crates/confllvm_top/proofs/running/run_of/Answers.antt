@@ -1,4 +1,3 @@
-use Rattle.std.proofs.Common.{rules}
 use Rattle.confllvm_top.proofs.RunLemmas.{run_told}
 use Rattle.confllvm_top.proofs.running.run_of.Goals as goal
 

@@ -1,5 +1,4 @@
-use Rattle.std.proofs.Common.{rules, arith, ◌∙◌, sym, get_or}
-use Rattle.confllvm_top.specs.Numbers.{IsNumber}
+use Rattle.std.proofs.Common.{rules}
 use Rattle.confllvm_top.proofs.NumberLemmas.{too-large, whole-value}
 use Rattle.confllvm_top.proofs.words.number.Goals as goal
 
