@@ -89,33 +89,13 @@ ends-cut_off status command bytes out err (inl told) e = absurd (untold status S
 ends-cut_off status command bytes out err (inr (inl cut)) e = cut.1
 ends-cut_off status command bytes out err (inr (inr none)) e = absurd (differ status status e none.0)
 
-pub ends-no_memory : (status : Status) (command : Command) (bytes : List ℕ) (out err : Stream) → Ends status command bytes out err → status ≡ NoMemory →
-    HasGotNothing out × MayHaveGot no_memory_line err
-ends-no_memory status command bytes out err (inl told) e = absurd (untold status NoMemory command bytes out err e refl told)
-ends-no_memory status command bytes out err (inr (inl cut)) e = absurd (differ status status cut.0 e)
-ends-no_memory status command bytes out err (inr (inr none)) e = (none.1, none.2)
+cut_off-failed : (command : Command) (bytes : List ℕ) (out err : Stream) → WasCutOff command bytes out err → HasFailed out ⊎ HasFailed err
+cut_off-failed (Verify name) bytes out err cut = inl cut.puts.0.1
+cut_off-failed (Run name steps) bytes out err cut = elim cut.puts [ inl line ↦ inr line.1.1 | inr output ↦ inl output.2 ]
 
-neither : (status : Status) → status ≡ Usage → status ≡ SinkFault → ⊥
-neither status e f = cc
-
-neither_memory : (status : Status) → status ≡ Usage → status ≡ NoMemory → ⊥
-neither_memory status e f = cc
-
-pub ends-not_usage : (status : Status) (command : Command) (bytes : List ℕ) (out err : Stream) → Ends status command bytes out err → status ≡ Usage → ⊥
-ends-not_usage status command bytes out err (inl told) e = untold status Usage command bytes out err e refl told
-ends-not_usage status command bytes out err (inr (inl cut)) e = neither status e cut.0
-ends-not_usage status command bytes out err (inr (inr none)) e = neither_memory status e none.0
-
-no_store : (status : Status) → status ≡ StoreFault → status ≡ SinkFault → ⊥
-no_store status e f = cc
-
-no_store_memory : (status : Status) → status ≡ StoreFault → status ≡ NoMemory → ⊥
-no_store_memory status e f = cc
-
-pub ends-not_store_fault : (status : Status) (command : Command) (bytes : List ℕ) (out err : Stream) → Ends status command bytes out err → status ≡ StoreFault → ⊥
-ends-not_store_fault status command bytes out err (inl told) e = untold status StoreFault command bytes out err e refl told
-ends-not_store_fault status command bytes out err (inr (inl cut)) e = no_store status e cut.0
-ends-not_store_fault status command bytes out err (inr (inr none)) e = no_store_memory status e none.0
+pub ends-sink_fault : (status : Status) (command : Command) (bytes : List ℕ) (out err : Stream) → Ends status command bytes out err → status ≡ SinkFault →
+    HasFailed out ⊎ HasFailed err
+ends-sink_fault status command bytes out err ends e = cut_off-failed command bytes out err (ends-cut_off status command bytes out err ends e)
 
 -- ---- how an end comes about
 

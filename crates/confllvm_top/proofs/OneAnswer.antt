@@ -1,7 +1,5 @@
--- A command line says one command, and a command has one answer to bytes.
-use Rattle.std.proofs.Common.{◌≡◌, ◌∙◌, ℕ, ◌⊎◌, inl, inr, List, [], ◌∷◌, length, codes, refl, sym, ap, subst, Option, Some}
-use Rattle.std.specs.Prelude.{fold}
-use Rattle.cv_io.specs.Files.{Files, HasFile}
+-- A command has one answer to bytes.
+use Rattle.std.proofs.Common.{◌≡◌, ◌∙◌, ℕ, ◌⊎◌, inl, inr, List, [], length, refl, sym, ap, subst}
 use Rattle.image_form.specs.Image.{Image}
 use Rattle.image_form.proofs.Laws.{spelling_is_one}
 use Rattle.conf_verify.specs.declared.rule.Rule.{Rule}
@@ -14,44 +12,9 @@ use Rattle.x64_machine.specs.Start.{Shared, Secret, start}
 use Rattle.x64_machine.specs.Entries.{entries}
 use Rattle.confllvm_top.specs.declared.status.Status.{Status}
 use Rattle.confllvm_top.specs.declared.status.Status.TheVariants.{Done, Refused, Usage, StoreFault, SinkFault, Fault, Steps, NoMemory}
-use Rattle.confllvm_top.specs.Numbers.{with_digit}
-use Rattle.confllvm_top.specs.Commands.{Command, Verify, Run, IsCommand}
+use Rattle.confllvm_top.specs.Commands.{Command, Verify, Run}
 use Rattle.confllvm_top.specs.Running.{RunsTo, status_of}
 use Rattle.confllvm_top.specs.Answers.{Answers}
-
--- ---- one command
-
-second_is : (a b c d : List ℕ) → a ∷ b ∷ [] ≡ c ∷ d ∷ [] → b ≡ d
-second_is a b c d e = cc
-
-lengths_differ : (a b c d f : List ℕ) → a ∷ b ∷ [] ≡ c ∷ d ∷ f ∷ [] → ⊥
-lengths_differ a b c d f e = cc
-
-middle_is : (a b c d e f : List ℕ) → a ∷ b ∷ c ∷ [] ≡ d ∷ e ∷ f ∷ [] → b ≡ e
-middle_is a b c d e f g = cc
-
-pub third_is : (a b c d e f : List ℕ) → a ∷ b ∷ c ∷ [] ≡ d ∷ e ∷ f ∷ [] → c ≡ f
-third_is a b c d e f g = cc
-
-same_run : (a b : List ℕ) (m n : ℕ) → a ≡ b → m ≡ n → Run a m ≡ Run b n
-same_run a b m n e f = cc
-
-pub one_command : (words : List (List ℕ)) (mine yours : Command) → IsCommand words mine → IsCommand words yours → mine ≡ yours
-one_command words (Verify a) (Verify b) x y = ap Verify (second_is (codes "verify") a (codes "verify") b (sym x.two ∙ y.two))
-one_command words (Verify a) (Run b n) x y = absurd (lengths_differ (codes "verify") a (codes "run") b y.digits (sym x.two ∙ y.three))
-one_command words (Run a n) (Verify b) x y = absurd (lengths_differ (codes "verify") b (codes "run") a x.digits (sym y.two ∙ x.three))
-one_command words (Run a m) (Run b n) x y =
-    let name = middle_is (codes "run") a x.digits (codes "run") b y.digits (sym x.three ∙ y.three) in
-    let digits = third_is (codes "run") a x.digits (codes "run") b y.digits (sym x.three ∙ y.three) in
-    same_run a b m n name (sym x.number.value ∙ ap (λ (w : List ℕ). fold with_digit 0 w) digits ∙ y.number.value)
-
--- ---- one file
-
-some_is : (a b : List ℕ) → (let o : Option (List ℕ) = Some a in o) ≡ Some b → a ≡ b
-some_is a b e = cc
-
-pub one_file : (told : Option Files) (files : Files) (name mine yours : List ℕ) → HasFile told name mine → told ≡ Some files → files name ≡ Some yours → mine ≡ yours
-one_file told files name mine yours has e f = some_is mine yours (sym (has.has files e) ∙ f)
 
 -- ---- one outcome
 

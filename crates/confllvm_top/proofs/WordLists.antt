@@ -13,3 +13,7 @@ three-words f (x ∷ []) a b c long short first second third = absurd (omega ari
 three-words f (x ∷ y ∷ []) a b c long short first second third = absurd (omega arith)
 three-words f (x ∷ y ∷ z ∷ []) a b c long short first second third = cc
 three-words f (x ∷ y ∷ z ∷ w ∷ ws) a b c long short first second third = absurd (omega arith)
+
+-- the last of three words
+pub third_is : (a b c d e f : List ℕ) → a ∷ b ∷ c ∷ [] ≡ d ∷ e ∷ f ∷ [] → c ≡ f
+third_is a b c d e f same = cc

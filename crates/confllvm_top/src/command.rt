@@ -9,7 +9,7 @@ ghost use Rattle.confllvm_top.specs.Commands.{IsCommand, IsNoCommand, name_of};
 ghost use Rattle.confllvm_top.specs.Endings.{Ends, HasEnded, HasFailedToEnd, IsChecked, IsFault, LacksNamed, TellsNamed};
 ghost use Rattle.confllvm_top.specs.Lines.{no_memory_line, store_fault_line, usage_line};
 ghost use Rattle.confllvm_top.specs.Statuses.{is_passed, is_told};
-ghost use Rattle.confllvm_top.specs.Streams.{stream, HasGotNothing, MayHaveGot};
+ghost use Rattle.confllvm_top.specs.Streams.{stream, HasFailed, HasGotNothing, MayHaveGot};
 ghost use Rattle.confllvm_top.specs.Words.{command_of};
 
 use crate::law::one_answer;
@@ -55,8 +55,9 @@ pub fn confllvm<S: Store, O: Sink, E: Sink>(
     // Usage exactly where the words are no command.
     ensures usage { (result ≡ Status.Usage) ↔ IsNoCommand (map string_bytes words.now) }
     ensures store_fault { result ≡ Status.StoreFault → HasRisen (S.faults store.old) (S.faults store.new) ⊎ LacksNamed (map string_bytes words.now) (S.contents store.old) }
-    // A sink has failed, and what both have got then.
-    ensures sink_fault { result ≡ Status.SinkFault → HasFailedToEnd (map string_bytes words.now) (S.contents store.old) (stream O.held O.faults out.old out.new) (stream E.held E.faults err.old err.new) }
+    ensures sink_fault { result ≡ Status.SinkFault → HasFailed (stream O.held O.faults out.old out.new) ⊎ HasFailed (stream E.held E.faults err.old err.new) }
+    // What both sinks have got then: the command was about to tell its answer, and a put failed.
+    ensures cut_off { result ≡ Status.SinkFault → HasFailedToEnd (map string_bytes words.now) (S.contents store.old) (stream O.held O.faults out.old out.new) (stream E.held E.faults err.old err.new) }
     // What `out` and `err` have got with the other three.
     ensures out_usage { result ≡ Status.Usage → HasGotNothing (stream O.held O.faults out.old out.new) }
     ensures out_store_fault { result ≡ Status.StoreFault → HasGotNothing (stream O.held O.faults out.old out.new) }

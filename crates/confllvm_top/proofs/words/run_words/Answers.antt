@@ -1,8 +1,7 @@
 use Rattle.std.proofs.Common.{rules, ◌≡◌, ◌∙◌, codes, sym}
 use Rattle.std.specs.String.{string_bytes}
-use Rattle.confllvm_top.proofs.WordLists.{three-words}
+use Rattle.confllvm_top.proofs.WordLists.{three-words, third_is}
 use Rattle.confllvm_top.proofs.NumberLemmas.{same-number}
-use Rattle.confllvm_top.proofs.OneAnswer.{third_is}
 use Rattle.confllvm_top.proofs.words.run_words.Goals as goal
 
 pub returns-in-Some : goal.returns-in-Some
