@@ -3,6 +3,8 @@ use Rattle.std.specs.Prelude.{◌==◌, ℕ, false, List, [], ◌∷◌, ◌++�
 use Rattle.std.specs.Fmt.{decimal, digits}
 use Rattle.conf_verify.specs.declared.rule.Rule.{Rule}
 use Rattle.conf_verify.specs.Rules.{rule_number}
+use Rattle.x64_alu.specs.declared.fault.FaultKind.{FaultKind}
+use Rattle.x64_alu.specs.declared.fault.FaultKind.TheVariants.{Memory, Undefined, Divide}
 
 abbrev pub newline : List ℕ
 newline = 10 ∷ []
@@ -21,6 +23,18 @@ refused_line rule at =
     if rule_number rule == 1
     then codes "refused V1 at place " ++ (decimal at ++ newline)
     else codes "refused V" ++ (decimal (rule_number rule) ++ (codes " at 0x" ++ (hexadecimal at ++ newline)))
+
+abbrev pub kind_word : FaultKind → List ℕ
+kind_word Memory = codes "Memory"
+kind_word Undefined = codes "Undefined"
+kind_word Divide = codes "Divide"
+
+abbrev pub fault_line : ℕ → ℕ → FaultKind → List ℕ
+fault_line core at kind =
+    codes "fault core " ++ (decimal core ++ (codes " at 0x" ++ (hexadecimal at ++ (codes " " ++ (kind_word kind ++ newline)))))
+
+abbrev pub steps_line : ℕ → List ℕ
+steps_line used = codes "steps " ++ (decimal used ++ newline)
 
 abbrev pub usage_line : List ℕ
 usage_line = codes "usage fault" ++ newline

@@ -1,7 +1,7 @@
--- The exit status of each end of a command.
-use Rattle.std.specs.Prelude.{ℕ}
+-- What a status says, and the exit status of each.
+use Rattle.std.specs.Prelude.{ℕ, Bool, true, false}
 use Rattle.confllvm_top.specs.declared.status.Status.{Status}
-use Rattle.confllvm_top.specs.declared.status.Status.TheVariants.{Done, Refused, Usage, StoreFault, SinkFault, NoMemory}
+use Rattle.confllvm_top.specs.declared.status.Status.TheVariants.{Done, Refused, Usage, StoreFault, SinkFault, Fault, Steps, NoMemory}
 
 abbrev pub code_of : Status → ℕ
 code_of Done = 0
@@ -9,4 +9,18 @@ code_of (Refused rule at) = 1
 code_of Usage = 2
 code_of StoreFault = 3
 code_of SinkFault = 4
+code_of (Fault core at kind) = 5
+code_of (Steps used) = 6
 code_of NoMemory = 9
+
+-- the command has found the bytes of its file accepted
+abbrev pub is_passed : Status → Bool
+is_passed Done = true
+is_passed (Fault core at kind) = true
+is_passed (Steps used) = true
+is_passed _ = false
+
+-- the command has told what it found: it passed the bytes or refused them
+abbrev pub is_told : Status → Bool
+is_told (Refused rule at) = true
+is_told status = is_passed status

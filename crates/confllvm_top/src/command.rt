@@ -1,28 +1,39 @@
 //! The call that does a command.
 
-ghost use Rattle.std.specs.Prelude.{◌≡◌, ◌≤◌, ◌⊎◌, ◌↔◌, ℕ, List, map};
+ghost use Rattle.std.specs.Prelude.{◌≡◌, ◌≤◌, ◌⊎◌, ◌↔◌, ℕ, true, List, map};
 ghost use Rattle.std.specs.String.{string_bytes};
 ghost use Rattle.cv_io.specs.Counts.{HasRisen};
-ghost use Rattle.conf_verify.specs.declared.rule.Rule.{Rule};
-ghost use Rattle.conf_verify.specs.Verdict.{IsAccepted, IsVerdict};
-ghost use Rattle.confllvm_top.specs.Commands.{IsVerify};
+ghost use Rattle.confllvm_top.specs.Answers.{Answers};
+ghost use Rattle.confllvm_top.specs.Commands as said;
+ghost use Rattle.confllvm_top.specs.Commands.{IsCommand, IsNoCommand, name_of};
+ghost use Rattle.confllvm_top.specs.Endings.{Ends, HasEnded, HasFailedToEnd, IsChecked, IsFault, LacksNamed, TellsNamed};
 ghost use Rattle.confllvm_top.specs.Lines.{no_memory_line, store_fault_line, usage_line};
-ghost use Rattle.confllvm_top.specs.Verifying.{IsAcceptance, IsAnswer, IsFault, IsRefusal, LacksNamed, MayPut, PutFront, PutLine, TellsFile};
+ghost use Rattle.confllvm_top.specs.Statuses.{is_passed, is_told};
+ghost use Rattle.confllvm_top.specs.Streams.{stream, HasFailed, HasGotNothing, MayHaveGot};
+ghost use Rattle.confllvm_top.specs.Words.{command_of};
 
+use crate::law::one_answer;
 use crate::lines;
+use crate::running::tell_run;
 use crate::status::Status;
-use crate::verifying::{put_anyway, tell, tell_no_memory};
-use crate::words::verify_name;
+use crate::telling::{put_anyway, tell_no_memory};
+use crate::verifying::tell_verdict;
+use crate::words::{Command, read_command};
 use cv_io::{Sink, Store, StoreError};
 use std::alloc::Global;
 
 /// Does the command that `words` say, those after the program's name, and answers how it ended.
 ///
-/// The command is `verify NAME`, where NAME doesn't begin with `-`; all other words are `Usage`. It
-/// loads the file and verifies its bytes as an image. `Done` puts the line
-/// `accepted procedures P items I` to `out`, and `Refused` the line `refused V1 at place P` or
-/// `refused RULE at 0xA`. A failing put of that line is `SinkFault`, and then nothing more is put. A
-/// failing or missing file is `StoreFault`.
+/// The commands are `verify NAME` and `run NAME STEPS`, where NAME doesn't begin with `-` and STEPS is one
+/// or more decimal digits with a value of at most 1,000,000,000; all other words are `Usage`. Both load
+/// the file and verify its bytes as an image. A failing or missing file is `StoreFault`.
+///
+/// `verify` puts to `out` the line `accepted procedures P items I` of `Done`, or that of `Refused`,
+/// `refused V1 at place P` or `refused RULE at 0xA`. `run` takes no step where the bytes are refused. Else
+/// it runs the image over a round robin of STEPS entries, puts the output of the run, which is empty so
+/// far, to `out`, and ends with `Fault` or `Steps`. Its lines go to `err`: that of `Refused`,
+/// `fault core C at 0xA KIND` or `steps N`. A failing put of these is `SinkFault`, and then nothing more
+/// is put.
 ///
 /// The lines `usage fault`, `store fault NAME` and `no memory` go to `err`, whether or not that fails.
 /// No file changes.
@@ -33,46 +44,62 @@ pub fn confllvm<S: Store, O: Sink, E: Sink>(
     out: &mut O,
     err: &mut E,
 ) -> Status
-    // Done only with bytes that are accepted and noninterfering, and their line is put.
-    ensures done { result ≡ Status.Done → PutLine IsAcceptance (map string_bytes words.now) (S.contents store.old) (O.held out.old) (O.held out.new) }
-    // Refused only by the verdict of the bytes, and its line is put.
-    ensures refused { (rule : Rule) (at : ℕ) → result ≡ Status.Refused rule at → PutLine (IsRefusal rule at) (map string_bytes words.now) (S.contents store.old) (O.held out.old) (O.held out.new) }
+    // Wherever the check was passed, the loaded bytes are accepted and noninterfering.
+    ensures checked { is_passed result ≡ true → IsChecked (map string_bytes words.now) (S.contents store.old) }
+    // An answer is that of the command to the loaded bytes, and its line and nothing else is put.
+    ensures told { is_told result ≡ true → HasEnded result (map string_bytes words.now) (S.contents store.old) (stream O.held O.faults out.old out.new) (stream E.held E.faults err.old err.new) }
     // A file that is told is answered by what its bytes are, unless there is a fault or memory is refused.
-    ensures answered { (name bytes : List ℕ) → IsVerify (map string_bytes words.now) name → TellsFile (S.contents store.old) name bytes → IsAnswer bytes result (HasRisen (S.faults store.old) (S.faults store.new)) (HasRisen (O.faults out.old) (O.faults out.new)) }
-    // So a file that is told is refused exactly by its verdict, unless there is a fault or memory is refused.
-    ensures accepts { (name bytes : List ℕ) → IsVerify (map string_bytes words.now) name → TellsFile (S.contents store.old) name bytes → IsAccepted bytes → (result ≡ Status.Done) ⊎ IsFault result (HasRisen (S.faults store.old) (S.faults store.new)) (HasRisen (O.faults out.old) (O.faults out.new)) }
-    ensures refuses { (name bytes : List ℕ) (rule : Rule) (at : ℕ) → IsVerify (map string_bytes words.now) name → TellsFile (S.contents store.old) name bytes → IsVerdict bytes rule at → (result ≡ Status.Refused rule at) ⊎ IsFault result (HasRisen (S.faults store.old) (S.faults store.new)) (HasRisen (O.faults out.old) (O.faults out.new)) }
+    ensures answered { (command : said.Command) (bytes : List ℕ) → TellsNamed (map string_bytes words.now) (S.contents store.old) command bytes → Answers result command bytes ⊎ IsFault result (HasRisen (S.faults store.old) (S.faults store.new)) (stream O.held O.faults out.old out.new) (stream E.held E.faults err.old err.new) }
+    // So a file that is told gets exactly the command's answer to its bytes, unless there is a fault or memory is refused.
+    ensures exact { (command : said.Command) (bytes : List ℕ) (status : Status) → TellsNamed (map string_bytes words.now) (S.contents store.old) command bytes → Answers status command bytes → (result ≡ status) ⊎ IsFault result (HasRisen (S.faults store.old) (S.faults store.new)) (stream O.held O.faults out.old out.new) (stream E.held E.faults err.old err.new) }
     // Usage exactly where the words are no command.
-    ensures usage { (result ≡ Status.Usage) ↔ ((name : List ℕ) → IsVerify (map string_bytes words.now) name → ⊥) }
+    ensures usage { (result ≡ Status.Usage) ↔ IsNoCommand (map string_bytes words.now) }
     ensures store_fault { result ≡ Status.StoreFault → HasRisen (S.faults store.old) (S.faults store.new) ⊎ LacksNamed (map string_bytes words.now) (S.contents store.old) }
-    ensures sink_fault { result ≡ Status.SinkFault → HasRisen (O.faults out.old) (O.faults out.new) }
-    // What `out` has got where the line was not put whole.
-    ensures out_front { result ≡ Status.SinkFault → PutFront (map string_bytes words.now) (S.contents store.old) (O.held out.old) (O.held out.new) }
-    ensures out_usage { result ≡ Status.Usage → O.held out.new ≡ O.held out.old }
-    ensures out_store_fault { result ≡ Status.StoreFault → O.held out.new ≡ O.held out.old }
-    ensures out_no_memory { result ≡ Status.NoMemory → O.held out.new ≡ O.held out.old }
-    // What `err` has got.
-    ensures err_usage { result ≡ Status.Usage → MayPut usage_line (E.held err.old) (E.held err.new) (HasRisen (E.faults err.old) (E.faults err.new)) }
-    ensures err_store_fault { result ≡ Status.StoreFault → (name : List ℕ) × IsVerify (map string_bytes words.now) name × MayPut (store_fault_line name) (E.held err.old) (E.held err.new) (HasRisen (E.faults err.old) (E.faults err.new)) }
-    ensures err_no_memory { result ≡ Status.NoMemory → MayPut no_memory_line (E.held err.old) (E.held err.new) (HasRisen (E.faults err.old) (E.faults err.new)) }
-    ensures err_done { result ≡ Status.Done → E.held err.new ≡ E.held err.old }
-    ensures err_refused { (rule : Rule) (at : ℕ) → result ≡ Status.Refused rule at → E.held err.new ≡ E.held err.old }
-    ensures err_sink_fault { result ≡ Status.SinkFault → E.held err.new ≡ E.held err.old }
+    ensures sink_fault { result ≡ Status.SinkFault → HasFailed (stream O.held O.faults out.old out.new) ⊎ HasFailed (stream E.held E.faults err.old err.new) }
+    // What both sinks have got then: the command was about to tell its answer, and a put failed.
+    ensures cut_off { result ≡ Status.SinkFault → HasFailedToEnd (map string_bytes words.now) (S.contents store.old) (stream O.held O.faults out.old out.new) (stream E.held E.faults err.old err.new) }
+    // What `out` and `err` have got with the other three.
+    ensures out_usage { result ≡ Status.Usage → HasGotNothing (stream O.held O.faults out.old out.new) }
+    ensures out_store_fault { result ≡ Status.StoreFault → HasGotNothing (stream O.held O.faults out.old out.new) }
+    ensures out_no_memory { result ≡ Status.NoMemory → HasGotNothing (stream O.held O.faults out.old out.new) }
+    ensures err_usage { result ≡ Status.Usage → MayHaveGot usage_line (stream E.held E.faults err.old err.new) }
+    ensures err_store_fault { result ≡ Status.StoreFault → (command : said.Command) × IsCommand (map string_bytes words.now) command × MayHaveGot (store_fault_line (name_of command)) (stream E.held E.faults err.old err.new) }
+    ensures err_no_memory { result ≡ Status.NoMemory → MayHaveGot no_memory_line (stream E.held E.faults err.old err.new) }
     // What stays, and what never falls.
     ensures files { S.contents store.new ≡ S.contents store.old }
     ensures store_counted { S.faults store.old ≤ S.faults store.new }
     ensures out_counted { O.faults out.old ≤ O.faults out.new }
     ensures err_counted { E.faults err.old ≤ E.faults err.new }
 {
-    let Some(name) = verify_name(words) else {
+    one_answer();
+    let Some(command) = read_command(words) else {
         put_anyway(err, b"usage fault\n");
         return Status::Usage;
     };
+    let name = command.name();
     match store.load(alloc, name) {
-        Ok(bytes) => tell(alloc, &bytes, out, err),
+        Ok(bytes) => tell(alloc, &command, &bytes, out, err),
         Err(StoreError::NoMemory) => tell_no_memory(err),
         Err(StoreError::Missing) => tell_store_fault(alloc, name, err),
         Err(StoreError::Failed) => tell_store_fault(alloc, name, err),
+    }
+}
+
+/// Does the command with the bytes of its file.
+fn tell<O: Sink, E: Sink>(
+    alloc: Global,
+    command: &Command<'_>,
+    bytes: &[u8],
+    out: &mut O,
+    err: &mut E,
+) -> Status
+    ensures ends { Ends result (command_of command.now) bytes.now (stream O.held O.faults out.old out.new) (stream E.held E.faults err.old err.new) }
+    ensures out_counted { O.faults out.old ≤ O.faults out.new }
+    ensures err_counted { E.faults err.old ≤ E.faults err.new }
+{
+    match command {
+        Command::Verify { .. } => tell_verdict(alloc, bytes, out, err),
+        Command::Run { steps, .. } => tell_run(alloc, bytes, *steps, out, err),
     }
 }
 
@@ -80,8 +107,8 @@ pub fn confllvm<S: Store, O: Sink, E: Sink>(
 /// `StoreFault`; where memory for the line is refused, that of want of memory, and `NoMemory`.
 fn tell_store_fault<E: Sink>(alloc: Global, name: &str, err: &mut E) -> Status
     ensures status { (result ≡ Status.StoreFault) ⊎ (result ≡ Status.NoMemory) }
-    ensures line { result ≡ Status.StoreFault → MayPut (store_fault_line name.now) (E.held err.old) (E.held err.new) (HasRisen (E.faults err.old) (E.faults err.new)) }
-    ensures no_memory { result ≡ Status.NoMemory → MayPut no_memory_line (E.held err.old) (E.held err.new) (HasRisen (E.faults err.old) (E.faults err.new)) }
+    ensures line { result ≡ Status.StoreFault → MayHaveGot (store_fault_line name.now) (stream E.held E.faults err.old err.new) }
+    ensures no_memory { result ≡ Status.NoMemory → MayHaveGot no_memory_line (stream E.held E.faults err.old err.new) }
     ensures counted { E.faults err.old ≤ E.faults err.new }
 {
     let Ok(line) = lines::store_fault(alloc, name) else {

@@ -2,16 +2,21 @@
 //!
 //! [`confllvm`] reads the words of a command line, does what they say and answers a [`Status`]. Its
 //! contract is the promise of the product: `verify` is done only with bytes that are accepted and
-//! noninterfering, and refuses bytes by their verdict alone.
+//! noninterfering, `run` runs no others and ends by the outcome of their run, and both refuse bytes by
+//! their verdict alone.
 #![tactic(auto)]
 
 mod command;
+mod law;
 mod lines;
+mod running;
 mod status;
+mod telling;
 #[cfg(test)]
 mod tests;
 mod verifying;
 mod words;
 
 pub use command::confllvm;
+pub use law::one_answer;
 pub use status::Status;

@@ -3,10 +3,11 @@
 ghost use Rattle.std.specs.Prelude.{◌≡◌, IfOk};
 ghost use Rattle.std.specs.String.{string_bytes};
 ghost use Rattle.conf_verify.specs.Rules.{rule_number};
-ghost use Rattle.confllvm_top.specs.Lines.{accepted_line, refused_line, store_fault_line};
+ghost use Rattle.confllvm_top.specs.Lines.{accepted_line, refused_line, fault_line, kind_word, steps_line, store_fault_line};
 
 use conf_verify::{Counts, Rule};
 use std::alloc::{AllocError, Global};
+use x64_machine::FaultKind;
 
 /// `accepted procedures P items I`
 pub(crate) fn accepted(alloc: Global, counts: Counts) -> Result<String, AllocError>
@@ -29,11 +30,37 @@ pub(crate) fn refused(alloc: Global, rule: Rule, at: u64) -> Result<String, Allo
     }
 }
 
+/// `fault core C at 0xA KIND`
+pub(crate) fn fault(alloc: Global, core: u8, at: u64, kind: FaultKind) -> Result<String, AllocError>
+    ensures { IfOk result (λ line. string_bytes line ≡ fault_line core at kind) }
+{
+    let kind = word_of(kind);
+    format!(in alloc; "fault core {core} at 0x{at:x} {kind}\n")
+}
+
+/// `steps N`
+pub(crate) fn steps(alloc: Global, used: u64) -> Result<String, AllocError>
+    ensures { IfOk result (λ line. string_bytes line ≡ steps_line used) }
+{
+    format!(in alloc; "steps {used}\n")
+}
+
 /// `store fault NAME`
 pub(crate) fn store_fault(alloc: Global, name: &str) -> Result<String, AllocError>
     ensures { IfOk result (λ line. string_bytes line ≡ store_fault_line name.now) }
 {
     format!(in alloc; "store fault {name}\n")
+}
+
+/// The word for a kind of fault.
+fn word_of(kind: FaultKind) -> &'static str
+    ensures { result.now ≡ kind_word kind }
+{
+    match kind {
+        FaultKind::Memory => "Memory",
+        FaultKind::Undefined => "Undefined",
+        FaultKind::Divide => "Divide",
+    }
 }
 
 /// The number in a rule's name.

@@ -1,9 +1,10 @@
 //! How a command ended.
 
 ghost use Rattle.std.specs.Prelude.{◌≡◌};
-ghost use Rattle.confllvm_top.specs.Statuses.{code_of};
+ghost use Rattle.confllvm_top.specs.Statuses.{code_of, is_passed};
 
 use conf_verify::Rule;
+use x64_machine::FaultKind;
 
 /// How a command ended.
 #[derive(Clone, Copy, Debug, PartialEq, Eq)]
@@ -18,13 +19,17 @@ pub enum Status {
     StoreFault,
     /// A sink has failed.
     SinkFault,
+    /// A step of a core faulted at the flat address of its program counter.
+    Fault { core: u8, at: u64, kind: FaultKind },
+    /// The run goes on after all entries of its schedule, `used` of them.
+    Steps { used: u64 },
     /// Memory was refused.
     NoMemory,
 }
 
 impl Status {
     /// The exit status: 0 for `Done`, 1 for `Refused`, 2 for `Usage`, 3 for `StoreFault`, 4 for
-    /// `SinkFault` and 9 for `NoMemory`.
+    /// `SinkFault`, 5 for `Fault`, 6 for `Steps` and 9 for `NoMemory`.
     pub fn code(&self) -> u8
         ensures { result ≡ code_of self.now }
     {
@@ -34,7 +39,20 @@ impl Status {
             Status::Usage => 2,
             Status::StoreFault => 3,
             Status::SinkFault => 4,
+            Status::Fault { .. } => 5,
+            Status::Steps { .. } => 6,
             Status::NoMemory => 9,
+        }
+    }
+    /// Whether the command has found the bytes of its file accepted.
+    pub(crate) fn is_passed(&self) -> bool
+        ensures { result ≡ is_passed self.now }
+    {
+        match self {
+            Status::Done => true,
+            Status::Fault { .. } => true,
+            Status::Steps { .. } => true,
+            _ => false,
         }
     }
 }

@@ -1,4 +1,4 @@
-//! The lines and statuses of `verify` by hand, over stores and sinks in memory that succeed or fail.
+//! The lines and statuses of the commands by hand, over stores and sinks in memory that succeed or fail.
 
 use super::*;
 use cv_io::{MemSink, MemStore};
@@ -151,6 +151,71 @@ const CODES: [(&[u8], &[u8], u8, &[u8]); 22] = [
     ),
 ];
 
+/// A code behind its call word, the number of entries, the exit status and the line. The two codes of eight instructions
+/// store 42 at offset 2^32 + 4096, which is 4096, load it back and branch on whether it is 42.
+const RUNS: [(&[u8], &str, u8, &[u8]); 10] = [
+    (
+        b"\x0f\x11\xa1\xa2\xa3\xa4\xa5\xa6\x0f\x0b",
+        "5",
+        5,
+        b"fault core 0 at 0x10008 Undefined\n",
+    ),
+    (
+        b"\x0f\x11\xa1\xa2\xa3\xa4\xa5\xa6\x0f\x0b",
+        "0",
+        6,
+        b"steps 0\n",
+    ),
+    (
+        b"\x0f\x11\xa1\xa2\xa3\xa4\xa5\xa6\x0f\x0b",
+        "007",
+        5,
+        b"fault core 0 at 0x10008 Undefined\n",
+    ),
+    (
+        b"\x0f\x11\xa1\xa2\xa3\xa4\xa5\xa6\x0f\x0b",
+        "1000000000",
+        5,
+        b"fault core 0 at 0x10008 Undefined\n",
+    ),
+    (
+        b"\x0f\x11\xa1\xa2\xa3\xa4\xa5\xa6\x41\xb8\x00\x00\x00\x00\x64\x67\x49\x8b\x80\xfd\xff\xff\xff\x0f\x0b",
+        "9",
+        5,
+        b"fault core 0 at 0x1000e Memory\n",
+    ),
+    (
+        b"\x0f\x11\xa1\xa2\xa3\xa4\xa5\xa6\x48\xb8\x00\x00\x00\x00\x00\x00\x00\x80\x48\x99\x48\xc7\xc1\xff\xff\xff\xff\x48\xf7\xf9\x0f\x0b",
+        "9",
+        5,
+        b"fault core 0 at 0x1001b Divide\n",
+    ),
+    (
+        b"\x0f\x11\xa1\xa2\xa3\xa4\xa5\xa6\xe9\xfb\xff\xff\xff",
+        "7",
+        6,
+        b"steps 7\n",
+    ),
+    (
+        b"\x0f\x11\xa1\xa2\xa3\xa4\xa5\xa6\x49\xb8\x00\x10\x00\x00\x01\x00\x00\x00\x40\xb8\x2a\x00\x00\x00\x64\x67\x49\x89\x80\x00\x00\x00\x00\x41\xb9\x00\x10\x00\x00\x64\x67\x49\x8b\x89\x00\x00\x00\x00\x48\x39\xc1\x0f\x85\x02\x00\x00\x00\x0f\x0b\x0f\x0b",
+        "7",
+        6,
+        b"steps 7\n",
+    ),
+    (
+        b"\x0f\x11\xa1\xa2\xa3\xa4\xa5\xa6\x49\xb8\x00\x10\x00\x00\x01\x00\x00\x00\x40\xb8\x2a\x00\x00\x00\x64\x67\x49\x89\x80\x00\x00\x00\x00\x41\xb9\x00\x10\x00\x00\x64\x67\x49\x8b\x89\x00\x00\x00\x00\x48\x39\xc1\x0f\x85\x02\x00\x00\x00\x0f\x0b\x0f\x0b",
+        "8",
+        5,
+        b"fault core 0 at 0x10039 Undefined\n",
+    ),
+    (
+        b"\x0f\x11\xa1\xa2\xa3\xa4\xa5\xa6\x90",
+        "9",
+        1,
+        b"refused V3 at 0x10008\n",
+    ),
+];
+
 /// An image with one entry at 8 and a code of at most 255 bytes.
 fn image(alloc: Global, prefix: &[u8], code: &[u8]) -> Result<Vec<u8>, NoMemory> {
     let mut bytes = Vec::new(alloc);
@@ -206,6 +271,21 @@ fn tells_the_verdict_of_a_code(rt: HostRuntime) -> Result<(), Fail> {
 }
 
 #[test]
+fn tells_the_outcome_of_a_run(rt: HostRuntime) -> Result<(), Fail> {
+    for (code, steps, status, line) in RUNS {
+        let bytes = image(rt.alloc(), b"\xa1\xa2\xa3\xa4\xa5\xa6", code)?;
+        assert_told(
+            &rt,
+            rt.alloc(),
+            bytes.as_slice(),
+            &["run", "img", steps],
+            (status, b"", line),
+        )?;
+    }
+    Ok(())
+}
+
+#[test]
 fn tells_the_place_of_a_wrong_form(rt: HostRuntime) -> Result<(), Fail> {
     let mut long = Vec::new(rt.alloc());
     long.extend_from_slice(&SMALL)?;
@@ -217,6 +297,7 @@ fn tells_the_place_of_a_wrong_form(rt: HostRuntime) -> Result<(), Fail> {
     ];
     for (bytes, line) in cases {
         assert_told(&rt, rt.alloc(), bytes, &["verify", "img"], (1, line, b""))?;
+        assert_told(&rt, rt.alloc(), bytes, &["run", "img", "9"], (1, b"", line))?;
     }
     Ok(())
 }
@@ -235,30 +316,27 @@ fn tells_an_entry_at_the_call_word(rt: HostRuntime) -> Result<(), Fail> {
     )
 }
 
+/// Words over a store that has the file `img` alone.
 #[test]
 fn tells_usage_and_a_missing_file(rt: HostRuntime) -> Result<(), Fail> {
-    assert_told(
-        &rt,
-        rt.alloc(),
-        &SMALL,
-        &["frobnicate"],
-        (2, b"", b"usage fault\n"),
-    )?;
-    assert_told(
-        &rt,
-        rt.alloc(),
-        &SMALL,
-        &["verify"],
-        (2, b"", b"usage fault\n"),
-    )?;
-    assert_told(&rt, rt.alloc(), &SMALL, &[], (2, b"", b"usage fault\n"))?;
-    assert_told(
-        &rt,
-        rt.alloc(),
-        &SMALL,
-        &["verify", "gone"],
-        (3, b"", b"store fault gone\n"),
-    )?;
+    let cases: [(&[&str], u8, &[u8]); 13] = [
+        (&[], 2, b"usage fault\n"),
+        (&["frobnicate"], 2, b"usage fault\n"),
+        (&["verify"], 2, b"usage fault\n"),
+        (&["verify", "gone"], 3, b"store fault gone\n"),
+        (&["run", "img"], 2, b"usage fault\n"),
+        (&["run", "-img", "5"], 2, b"usage fault\n"),
+        (&["run", "img", ""], 2, b"usage fault\n"),
+        (&["run", "img", "-1"], 2, b"usage fault\n"),
+        (&["run", "img", "+1"], 2, b"usage fault\n"),
+        (&["run", "img", "1x"], 2, b"usage fault\n"),
+        (&["run", "img", "1000000001"], 2, b"usage fault\n"),
+        (&["run", "gone", "1x"], 2, b"usage fault\n"),
+        (&["run", "gone", "5"], 3, b"store fault gone\n"),
+    ];
+    for (texts, status, line) in cases {
+        assert_told(&rt, rt.alloc(), &SMALL, texts, (status, b"", line))?;
+    }
     Ok(())
 }
 
@@ -290,5 +368,31 @@ fn tells_a_failing_store_and_sink(rt: HostRuntime) -> Result<(), Fail> {
     let status = confllvm(alloc, &wrong, &mut store, &mut second, &mut deaf);
     assert_eq!(rt; status, Status::Usage);
     assert_eq!(rt; deaf.bytes(), b"us".as_slice());
+    Ok(())
+}
+
+/// The put of the empty output fails, then that of the line, then that of the line of a refusal.
+#[test]
+fn tells_a_failing_sink_of_a_run(rt: HostRuntime) -> Result<(), Fail> {
+    let alloc = rt.alloc();
+    let line = words(alloc, &["run", "img", "5"])?;
+    let mut store = MemStore::new(alloc);
+    store.add("img", &SMALL)?;
+    let (mut out, mut err) = (MemSink::new(alloc), MemSink::new(alloc));
+    out.fail_at(1, 3)?;
+    err.fail_at(1, 3)?;
+    err.fail_at(2, 4)?;
+    let status = confllvm(alloc, &line, &mut store, &mut out, &mut err);
+    assert_eq!(rt; status, Status::SinkFault);
+    assert_eq!(rt; err.bytes(), b"".as_slice());
+    let status = confllvm(alloc, &line, &mut store, &mut out, &mut err);
+    assert_eq!(rt; status, Status::SinkFault);
+    assert_eq!(rt; err.bytes(), b"fau".as_slice());
+    store.add("img", b"")?;
+    let status = confllvm(alloc, &line, &mut store, &mut out, &mut err);
+    assert_eq!(rt; status, Status::SinkFault);
+    assert_eq!(rt; err.bytes(), b"faurefu".as_slice());
+    assert_eq!(rt; out.bytes(), b"".as_slice());
+    assert_eq!(rt; out.faults(), 1);
     Ok(())
 }

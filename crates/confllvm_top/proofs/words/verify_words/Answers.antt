@@ -1,7 +1,7 @@
 use Rattle.std.proofs.Common.{rules, ◌≡◌, codes}
 use Rattle.std.specs.String.{string_bytes}
-use Rattle.confllvm_top.proofs.TwoWords.{two-words}
-use Rattle.confllvm_top.proofs.words.verify_name.Goals as goal
+use Rattle.confllvm_top.proofs.WordLists.{two-words}
+use Rattle.confllvm_top.proofs.words.verify_words.Goals as goal
 
 pub returns : goal.returns
 returns c =

@@ -1,8 +1,0 @@
--- A list of two words, read word by word.
-use Rattle.std.proofs.Common.{◌≡◌, ◌<◌, ◌≤◌, ℕ, List, [], ◌∷◌, length, map, slice_index_or, arith}
-
-pub two-words : {A : Type 0} (f : A → List ℕ) (xs : List A) (a b : A) → 2 ≤ length xs → length xs < 3 → a ≡ slice_index_or xs 0 a → b ≡ slice_index_or xs 1 b → map f xs ≡ f a ∷ f b ∷ []
-two-words f [] a b long short first second = absurd (omega arith)
-two-words f (x ∷ []) a b long short first second = absurd (omega arith)
-two-words f (x ∷ y ∷ []) a b long short first second = cc
-two-words f (x ∷ y ∷ z ∷ zs) a b long short first second = absurd (omega arith)
