@@ -1,9 +1,10 @@
 #!/usr/bin/env python3
 """An independent model of the checker, written from the rules in docs/rules.md and the instruction table, for expected values.
 
-`tools/verdicts.py pairs` prints the table of crates/conf_verify/src/tests.rt: for each two of the pieces below, one behind
-the other, the rule that is told and the place in the code. `tools/verdicts.py CODE` prints the verdict of a code in
-hexadecimal, with an entry at 8.
+`tools/verdicts.py pairs`, `rows` and `words` print tables of crates/conf_verify/src/tests.rt: for each two of the pieces below,
+one behind the other, the rule that is told and the place in the code; for each row of the instruction table a code that is
+accepted and one that is refused; and what is told where a byte of a word of a code with calls is changed, 0 for acceptance. `tools/verdicts.py
+CODE` prints the verdict of a code in hexadecimal, with an entry at 8.
 """
 import sys
 
@@ -321,9 +322,99 @@ def pairs():
         print("[" + ", ".join(row) + "],")
 
 
+CONST8, CONST_RAX, JCC = "41b800100000", "40b807000000", "0f8400000000"
+RETURN_PUBLIC = CONST_RAX + return_unit(0).hex()
+TO_STACK = "4889c4"  # mov rsp, rax
+
+# for each row of the instruction table what is accepted behind a call word and before UD2, and what is refused there; a refused
+# code that ends with a point has no UD2 behind it
+ROWS = [
+    ("MOV", "4889c1", "4889c4"),
+    ("MOV of 32 bits", "4089c1", "4089c4"),
+    ("ADD", "4801c1", "4801c4"),
+    ("OR", "4809c1", "4809c4"),
+    ("AND", "4821c1", "4821c4"),
+    ("SUB", "4829c1", "4829c4"),
+    ("XOR", "4831c1", "4831c4"),
+    ("CMP", "4839c1", "4839c1" + JCC),
+    ("TEST", "4885c1", "4885c1" + JCC),
+    ("IMUL", "480fafc1", "480fafe1"),
+    ("NOT", "48f7d0", "48f7d0" + TO_STACK),
+    ("NEG", "48f7d8", "48f7d8" + JCC),
+    ("IDIV", CONST_RAX + "4899 40b902000000 48f7f9", "48f7f9"),
+    ("CQO", "4899", CONST_RAX + "4899 4889d4 4889c8 4899 4889d4"),
+    ("SHL", "48c1e003", "48c1e003" + JCC),
+    ("SHR", "48c1e803", "48c1e803" + JCC),
+    ("SAR", "48c1f803", "48c1f803" + JCC),
+    ("SHL by CL", "48d3e0", "48d3e4"),
+    ("SHR by CL", "48d3e8", "48d3ec"),
+    ("SAR by CL", "48d3f8", "48d3fc"),
+    ("MOVSXD", "4863c1", "4863e1"),
+    ("MOVZX", "480fb6c1", "480fb6e1"),
+    ("MOVSX", "480fbec1", "480fbee1"),
+    ("SETcc", "400f94c0", "400f94c4"),
+    ("CMOVcc", "480f44c1", "480f44e1"),
+    ("MOV of a constant of 32 bits", "40b800100000", "40b800100000."),
+    ("MOV of a constant of 64 bits", "49b8a1a2a3a4a5000000", "49b8a1a2a3a4a5a60000"),
+    ("MOV of an extended constant", "48c7c0ffffffff", "48c7c0ffffffff."),
+    ("ADD of a constant", "4881c001000000", "4881c001000000" + JCC),
+    ("OR of a constant", "4881c801000000", "4881c801000000" + JCC),
+    ("AND of a constant", "4881e001000000", "4881e001000000" + JCC),
+    ("SUB of a constant", "4881e801000000", "4881e801000000" + JCC),
+    ("XOR of a constant", "4881f001000000", "4881f001000000" + JCC),
+    ("CMP with a constant", "4881f801000000", "4881f801000000" + JCC),
+    ("load of 8 bytes", CONST8 + "6467498b8000000000", "6467488b8000000000"),
+    ("load of 4 bytes", CONST8 + "6467418b8000000000", "6467408b8000000000"),
+    ("MOVZX of a byte", CONST8 + "6567490fb68000000000", "6567480fb68000000000"),
+    ("MOVSX of a byte", CONST8 + "6567490fbe8000000000", "6567480fbe8000000000"),
+    ("MOVSXD of 4 bytes", CONST8 + "646749638000000000", "646748638000000000"),
+    ("store of 8 bytes", CONST8 + "656749898000000000", CONST8 + "646749898000000000"),
+    ("store of 4 bytes", CONST8 + "656741898000000000", CONST8 + "646741898000000000"),
+    ("store of a byte", CONST8 + "656741888000000000", CONST8 + "646741888000000000"),
+    ("the comparison of a unit", RETURN_PUBLIC, "674d3b9a00000000"),
+    ("the jump of a return unit", RETURN_PUBLIC, "41ffe2"),
+    ("the call of a call unit", "40b842000100" + call_unit(0, 0x0F).hex() + Z.hex(), "41ffd2"),
+    ("CALL", "e812000000" + Z.hex() + UD2.hex() + W.hex(), "e803000000" + Z.hex()),
+    ("JMP", "e900000000", "e903000000"),
+    ("Jcc", CONST_RAX + "4839c0" + JCC, JCC),
+    ("UD2", "0f0b", "0f0b" + W.hex() + "."),
+    ("NOP", "90", "90."),
+]
+
+
+def literal(code):
+    return 'b"' + "".join(f"\\x{b:02x}" for b in code) + '"'
+
+
+def rows():
+    for name, good, bad in ROWS:
+        accepted = W + bytes.fromhex(good) + UD2
+        refused = W + bytes.fromhex(bad.rstrip(".")) + (b"" if bad.endswith(".") else UD2)
+        assert verdict(accepted) is None, (name, verdict(accepted))
+        rule, at = verdict(refused)
+        print(f"// {name}\n({literal(accepted)}, {literal(refused)}, Rule::V{rule}, {at:#x}),")
+
+
+# two calls, and a procedure that overwrites its return address
+CALLS = (W + bytes.fromhex("e822000000") + Z + UD2 + bytes.fromhex("e813000000") + Z + bytes.fromhex("90") + UD2 + W
+         + bytes.fromhex("40b81c000100 64674889842400000000") + return_unit(0))
+
+
+def words():
+    for change in (1, 0x33):
+        for at in (0, 13, 28, 39):
+            row = []
+            for place in range(at, at + 8):
+                code = bytearray(CALLS)
+                code[place] ^= change
+                rule, told = verdict(bytes(code)) or (0, BASE)
+                row.append(f"({rule}, {told - BASE})")
+            print("[" + ", ".join(row) + "],")
+
+
 if __name__ == "__main__":
-    if sys.argv[1:] == ["pairs"]:
-        pairs()
+    if sys.argv[1:] in (["pairs"], ["rows"], ["words"]):
+        {"pairs": pairs, "rows": rows, "words": words}[sys.argv[1]]()
     else:
         told = verdict(bytes.fromhex(sys.argv[1]))
         print("accepted" if told is None else f"refused V{told[0]} at {told[1]:#x}")

@@ -1,5 +1,7 @@
 //! Verdicts by hand: small codes, an image with each bit turned, and one cut to each length.
 
+mod rows;
+
 use super::*;
 use cv_word::NoMemory;
 use std::alloc::Global;
