@@ -1,5 +1,8 @@
 //! The lines and statuses of the commands by hand, over stores and sinks in memory that succeed or fail.
 
+mod rows;
+
+use self::rows::{CODES, PREFIX, RUNS};
 use super::*;
 use cv_io::{MemSink, MemStore};
 use cv_word::NoMemory;
@@ -13,207 +16,6 @@ const SMALL: [u8; 54] = [
     0x00, 0x00, 0x01, 0x00, 0x00, 0x10, 0x00, 0x00, 0x0a, 0x00, 0x00, 0x00, 0x00, 0x00, 0x00, 0x00,
     0x00, 0x00, 0x00, 0x00, 0x00, 0x00, 0x00, 0x00, 0x08, 0x00, 0x00, 0x00, 0x0f, 0x11, 0xa1, 0xa2,
     0xa3, 0xa4, 0xa5, 0xa6, 0x0f, 0x0b,
-];
-
-/// A prefix and a code, the exit status and the line.
-const CODES: [(&[u8], &[u8], u8, &[u8]); 22] = [
-    (
-        b"\xa1\xa2\xa3\xa4\xa5\xa6",
-        b"\x0f\x11\xa1\xa2\xa3\xa4\xa5\xa6\x0f\x0b",
-        0,
-        b"accepted procedures 1 items 1\n",
-    ),
-    (
-        b"\x90\x90\x90\x90\x90\x90",
-        b"\x0f\x11\x90\x90\x90\x90\x90\x90\x90\x0f\x0b",
-        1,
-        b"refused V4 at 0x10003\n",
-    ),
-    (
-        b"\xa1\xa2\xa3\xa4\xa5\xa6",
-        b"\x0f\x11\xa1\xa2\xa3\xa4\xa5\xa6\x40\xb8\x00\x00\x00\x00\x48\x81\xf8\x00\x00\x00\x00\x0f\x84\x08\x00\x00\x00\x48\x89\xf8\xe9\xeb\xff\xff\xff\x0f\x0b",
-        1,
-        b"refused V12 at 0x10015\n",
-    ),
-    (
-        b"\xa1\xa2\xa3\xa4\xa5\xa6",
-        b"\x0f\x11\xa1\xa2\xa3\xa4\xa5\xa6\x41\xb8\x00\x10\x00\x00\x65\x67\x49\x8b\x80\x00\x00\x00\x00\x64\x67\x49\x89\x80\x00\x00\x00\x00\x0f\x0b",
-        1,
-        b"refused V11 at 0x10017\n",
-    ),
-    (
-        b"\xa1\xa2\xa3\xa4\xa5\xa6",
-        b"\x0f\x11\xa1\xa2\xa3\xa4\xa5\xa6\x41\xb8\x00\x10\x00\x00\x64\x67\x49\x8b\x80\x00\x00\x00\x00\x65\x67\x49\x89\x80\x00\x00\x00\x00\x0f\x0b",
-        0,
-        b"accepted procedures 1 items 4\n",
-    ),
-    (
-        b"\xa1\xa2\xa3\xa4\xa5\xa6",
-        b"\x0f\x11\xa1\xa2\xa3\xa4\xa5\xa6\x48\xb8\x00\x00\x00\x00\x00\x00\x00\x80\x48\x99\x48\xf7\xf9\x0f\x0b",
-        1,
-        b"refused V13 at 0x10014\n",
-    ),
-    (
-        b"\xa1\xa2\xa3\xa4\xa5\xa6",
-        b"\x0f\x11\xa1\xa2\xa3\xa4\xa5\xa6\x90",
-        1,
-        b"refused V3 at 0x10008\n",
-    ),
-    (
-        b"\xa1\xa2\xa3\xa4\xa5\xa6",
-        b"\x0f\x11\xa1\xa2\xa3\xa4\xa5\xa6\x64\x67\x48\x8b\x80\x00\x00\x00\x00\x0f\x0b",
-        1,
-        b"refused V10 at 0x10008\n",
-    ),
-    (
-        b"\xa1\xa2\xa3\xa4\xa5\xa6",
-        b"\x0f\x11\xa1\xa2\xa3\xa4\xa5\xa6\x48\x89\xc4\x0f\x0b",
-        1,
-        b"refused V14 at 0x10008\n",
-    ),
-    (
-        b"\xa1\xa2\xa3\xa4\xa5\xa6",
-        b"\x0f\x11\xa1\xa2\xa3\xa4\xa5\xa6\x48\x99\x0f\x0b",
-        0,
-        b"accepted procedures 1 items 2\n",
-    ),
-    (
-        b"\xa1\xa2\xa3\xa4\xa5\xa6",
-        b"\x0f\x11\xa1\xa2\xa3\xa4\xa5\xa6\xe9\x00\x00\x00\x00",
-        1,
-        b"refused V6 at 0x10008\n",
-    ),
-    (
-        b"\xa1\xa2\xa3\xa4\xa5\xa6",
-        b"\x0f\x11\xa1\xa2\xa3\xa4\xa5\xa6\xe9\xfb\xff\xff\xff",
-        0,
-        b"accepted procedures 1 items 1\n",
-    ),
-    (
-        b"\xa1\xa2\xa3\xa4\xa5\xa6",
-        b"\x0f\x11\xa1\xa2\xa3\xa4\xa5\xa6\xe9\x04\x00\x00\x00\x48\x83\xf8\xff\x0f\x0b",
-        1,
-        b"refused V2 at 0x1000d\n",
-    ),
-    (
-        b"\xa1\xa2\xa3\xa4\xa5\xa6",
-        b"\x0f\x11\xa1\xa2\xa3\xa4\xa5\xa6\xe9\x01\x00\x00\x00\x90\x0f\x0b",
-        0,
-        b"accepted procedures 1 items 3\n",
-    ),
-    (
-        b"\xa1\xa2\xa3\xa4\xa5\xa6",
-        b"\x0f\x11\xa1\xa2\xa3\xa4\xa5\xa6\xe9\xf3\xff\xff\xff",
-        1,
-        b"refused V6 at 0x10008\n",
-    ),
-    (
-        b"\xa1\xa2\xa3\xa4\xa5\xa6",
-        b"\x0f\x11\xa1\xa2\xa3\xa4\xa5\xa6\xe9\xfe\xff\xff\xff",
-        1,
-        b"refused V6 at 0x10008\n",
-    ),
-    (
-        b"\xa1\xa2\xa3\xa4\xa5\xa6",
-        b"\x0f\x11\xa1\xa2\xa3\xa4\xa5\xa6\xe9\xf2\xff\xff\xff",
-        1,
-        b"refused V6 at 0x10008\n",
-    ),
-    (
-        b"\xa1\xa2\xa3\xa4\xa5\xa6",
-        b"\x0f\x11\xa1\xa2\xa3\xa4\xa5\xa6\xe9\xfc\xff\xff\xff",
-        1,
-        b"refused V6 at 0x10008\n",
-    ),
-    (
-        b"\xa1\xa2\xa3\xa4\xa5\xa6",
-        b"\x0f\x11\xa1\xa2\xa3\xa4\xa5\xa6\xe9\x00\x00\x00\x00\x0f\x0b",
-        0,
-        b"accepted procedures 1 items 2\n",
-    ),
-    (
-        b"\xa1\xa2\xa3\xa4\xa5\xa6",
-        b"\x0f\x11\xa1\xa2\xa3\xa4\xa5\xa6\x0f\x84\x0a\x00\x00\x00\x0f\x0b",
-        1,
-        b"refused V6 at 0x10008\n",
-    ),
-    (
-        b"\xa1\xa2\xa3\xa4\xa5\xa6",
-        b"\x0f\x11\xa1\xa2\xa3\xa4\xa5\xa6\x48\x39\xc0\x0f\x84\x00\x00\x00\x00\x0f\x0b",
-        1,
-        b"refused V12 at 0x1000b\n",
-    ),
-    (
-        b"\xa1\xa2\xa3\xa4\xa5\xa6",
-        b"\x0f\x11\xa1\xa2\xa3\xa4\xa5\xa6\x90\x0f\x11\xa1\xa2\xa3\xa4\xa5\xa6\x0f\x0b",
-        1,
-        b"refused V2 at 0x10009\n",
-    ),
-];
-
-/// A code behind its call word, the number of entries, the exit status and the line. The two codes of eight instructions
-/// store 42 at offset 2^32 + 4096, which is 4096, load it back and branch on whether it is 42.
-const RUNS: [(&[u8], &str, u8, &[u8]); 10] = [
-    (
-        b"\x0f\x11\xa1\xa2\xa3\xa4\xa5\xa6\x0f\x0b",
-        "5",
-        5,
-        b"fault core 0 at 0x10008 Undefined\n",
-    ),
-    (
-        b"\x0f\x11\xa1\xa2\xa3\xa4\xa5\xa6\x0f\x0b",
-        "0",
-        6,
-        b"steps 0\n",
-    ),
-    (
-        b"\x0f\x11\xa1\xa2\xa3\xa4\xa5\xa6\x0f\x0b",
-        "007",
-        5,
-        b"fault core 0 at 0x10008 Undefined\n",
-    ),
-    (
-        b"\x0f\x11\xa1\xa2\xa3\xa4\xa5\xa6\x0f\x0b",
-        "1000000000",
-        5,
-        b"fault core 0 at 0x10008 Undefined\n",
-    ),
-    (
-        b"\x0f\x11\xa1\xa2\xa3\xa4\xa5\xa6\x41\xb8\x00\x00\x00\x00\x64\x67\x49\x8b\x80\xfd\xff\xff\xff\x0f\x0b",
-        "9",
-        5,
-        b"fault core 0 at 0x1000e Memory\n",
-    ),
-    (
-        b"\x0f\x11\xa1\xa2\xa3\xa4\xa5\xa6\x48\xb8\x00\x00\x00\x00\x00\x00\x00\x80\x48\x99\x48\xc7\xc1\xff\xff\xff\xff\x48\xf7\xf9\x0f\x0b",
-        "9",
-        5,
-        b"fault core 0 at 0x1001b Divide\n",
-    ),
-    (
-        b"\x0f\x11\xa1\xa2\xa3\xa4\xa5\xa6\xe9\xfb\xff\xff\xff",
-        "7",
-        6,
-        b"steps 7\n",
-    ),
-    (
-        b"\x0f\x11\xa1\xa2\xa3\xa4\xa5\xa6\x49\xb8\x00\x10\x00\x00\x01\x00\x00\x00\x40\xb8\x2a\x00\x00\x00\x64\x67\x49\x89\x80\x00\x00\x00\x00\x41\xb9\x00\x10\x00\x00\x64\x67\x49\x8b\x89\x00\x00\x00\x00\x48\x39\xc1\x0f\x85\x02\x00\x00\x00\x0f\x0b\x0f\x0b",
-        "7",
-        6,
-        b"steps 7\n",
-    ),
-    (
-        b"\x0f\x11\xa1\xa2\xa3\xa4\xa5\xa6\x49\xb8\x00\x10\x00\x00\x01\x00\x00\x00\x40\xb8\x2a\x00\x00\x00\x64\x67\x49\x89\x80\x00\x00\x00\x00\x41\xb9\x00\x10\x00\x00\x64\x67\x49\x8b\x89\x00\x00\x00\x00\x48\x39\xc1\x0f\x85\x02\x00\x00\x00\x0f\x0b\x0f\x0b",
-        "8",
-        5,
-        b"fault core 0 at 0x10039 Undefined\n",
-    ),
-    (
-        b"\x0f\x11\xa1\xa2\xa3\xa4\xa5\xa6\x90",
-        "9",
-        1,
-        b"refused V3 at 0x10008\n",
-    ),
 ];
 
 /// An image with one entry at 8 and a code of at most 255 bytes.
@@ -257,14 +59,14 @@ fn assert_told(
 
 #[test]
 fn tells_the_verdict_of_a_code(rt: HostRuntime) -> Result<(), Fail> {
-    for (prefix, code, status, line) in CODES {
+    for (prefix, code, status, line) in &CODES {
         let bytes = image(rt.alloc(), prefix, code)?;
         assert_told(
             &rt,
             rt.alloc(),
             bytes.as_slice(),
             &["verify", "img"],
-            (status, line, b""),
+            (*status, line, b""),
         )?;
     }
     Ok(())
@@ -272,14 +74,14 @@ fn tells_the_verdict_of_a_code(rt: HostRuntime) -> Result<(), Fail> {
 
 #[test]
 fn tells_the_outcome_of_a_run(rt: HostRuntime) -> Result<(), Fail> {
-    for (code, steps, status, line) in RUNS {
-        let bytes = image(rt.alloc(), b"\xa1\xa2\xa3\xa4\xa5\xa6", code)?;
+    for (code, steps, status, line) in &RUNS {
+        let bytes = image(rt.alloc(), PREFIX, code)?;
         assert_told(
             &rt,
             rt.alloc(),
             bytes.as_slice(),
             &["run", "img", steps],
-            (status, b"", line),
+            (*status, b"", line),
         )?;
     }
     Ok(())
