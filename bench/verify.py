@@ -1,4 +1,4 @@
-"""Images of straight code and of alternating jumps: seconds of `verify` and of `objdump -d`."""
+"""Images of several shapes: seconds of `verify` and of `objdump -D`, and steps a second of `run`."""
 
 import os
 import struct
@@ -9,50 +9,110 @@ import time
 
 PREFIX = bytes.fromhex("a1a2a3a4a5a6")
 CALL_WORD = b"\x0f\x11" + PREFIX
+RETURN_WORD = b"\x00\x22" + PREFIX
 UD2 = b"\x0f\x0b"
-# mov r8, 4096; a load and a store of 8 bytes in the private segment; add rax, rcx; nop
-STRAIGHT = bytes.fromhex("41b800100000" "6567498b8000000000" "656749898000000000" "4801c8" "90")
-# a jump over the next one, and back
-JUMPS = bytes.fromhex("e905000000" "e9f6ffffff")
+NOP = b"\x90"
+RAX_7 = bytes.fromhex("40b807000000")
+CHECK = bytes.fromhex("5e5d5c5b5a59 49f7d3 674d3b9a00000000 0f8402000000 0f0b 4981c208000000 41ff")
+RETURN_UNIT = bytes.fromhex("6467448b942400000000 4881c408000000 49bbffdd") + CHECK + b"\xe2"
+CALL_UNIT = bytes.fromhex("4189c2 49bbf0ee") + CHECK + b"\xd2"
 
 
-def image(piece, size):
-    body = piece * ((size - len(CALL_WORD) - len(UD2)) // len(piece))
-    code = CALL_WORD + body + UD2
+def repeated(piece, size):
+    return CALL_WORD + piece * ((size - len(CALL_WORD) - len(UD2)) // len(piece)) + UD2
+
+
+def straight(size):
+    # mov r8, 4096; a load and a store of 8 bytes in the private segment; add rax, rcx; nop
+    return repeated(bytes.fromhex("41b800100000 6567498b8000000000 656749898000000000 4801c8 90"), size)
+
+
+def jumps(size):
+    # a jump over the next one, and back
+    return repeated(bytes.fromhex("e905000000 e9f6ffffff"), size)
+
+
+def units(size):
+    return repeated(RAX_7 + CALL_UNIT + RETURN_WORD, size)
+
+
+def calls(size):
+    """Calls of one procedure at the front."""
+    code = bytearray(CALL_WORD + RAX_7 + RETURN_UNIT + CALL_WORD)
+    while len(code) < size - 15:
+        code += b"\xe8" + struct.pack("<i", len(CALL_WORD) - len(code) - 5) + RETURN_WORD
+    return bytes(code + UD2)
+
+
+def turns(size):
+    """A loop of nops whose every turn makes one more register private: the shape that asks the labelling for most steps."""
+    registers = [0, 1, 2, 3, 5, 6, 7, 9, 10, 11, 12, 13, 14, 15]
+    public = b"".join(bytes([0x40 + r // 8, 0xB8 + r % 8, 0, 16, 0, 0]) for r in registers + [8])
+    moves = b"".join(
+        bytes([0x48 + r // 8 * 4 + s // 8, 0x89, 0xC0 + r % 8 * 8 + s % 8]) for r, s in zip(registers[-2::-1], registers[:0:-1])
+    )
+    load = bytes.fromhex("6567498b8000000000")
+    start = CALL_WORD + public
+    body = moves + load + NOP * (size - len(start) - len(moves) - len(load) - 5)
+    return start + body + b"\xe9" + struct.pack("<i", -len(body) - 5)
+
+
+def image(code):
     head = b"CFVI" + bytes([1, 1, 0, 0]) + PREFIX + bytes(2)
-    sizes = struct.pack("<7I", 65536, 4096, len(code), 0, 0, 0, 8)
-    return head + sizes + code, code
+    return head + struct.pack("<7I", 65536, 4096, len(code), 0, 0, 0, 8) + code
 
 
-def seconds(command, wanted):
-    best = None
-    for _ in range(3):
-        start = time.perf_counter()
-        out = subprocess.PIPE if wanted else subprocess.DEVNULL
-        done = subprocess.run(command, stdout=out, stderr=subprocess.PIPE)
-        spent = time.perf_counter() - start
-        if done.returncode or (wanted and not done.stdout.startswith(wanted)):
-            sys.exit(f"{command}: {done.stdout!r} {done.stderr[:80]!r}")
-        best = spent if best is None else min(best, spent)
-    return best
+def once(command, status):
+    """Seconds, and the peak of memory in MB."""
+    start = time.perf_counter()
+    child = subprocess.Popen(command, stdout=subprocess.DEVNULL, stderr=subprocess.DEVNULL)
+    _, code, usage = os.wait4(child.pid, 0)
+    spent = time.perf_counter() - start
+    child.returncode = os.waitstatus_to_exitcode(code)
+    if child.returncode != status:
+        sys.exit(f"{command}: status {child.returncode}")
+    return spent, usage.ru_maxrss / 1e3
+
+
+def best(command, status=0):
+    runs = [once(command, status) for _ in range(3)]
+    return min(spent for spent, _ in runs), max(peak for _, peak in runs)
+
+
+def written(folder, name, data):
+    path = os.path.join(folder, name)
+    with open(path, "wb") as out:
+        out.write(data)
+    return path
+
+
+def time_verify(program, folder):
+    print("| Code | Bytes | `verify` MB/s | `objdump` MB/s | Ratio | Peak MB |\n|---|---|---|---|---|---|")
+    for shape in (straight, jumps, calls, units, turns):
+        times = []
+        for size in (65536, 1048576, 4194304):
+            code = shape(size)
+            ours, peak = best([program, "verify", written(folder, "image", image(code))])
+            theirs, _ = best(["objdump", "-D", "-b", "binary", "-m", "i386:x86-64", written(folder, "code", code)])
+            times.append(ours)
+            speeds = f"{len(code) / ours / 1e6:.1f} | {len(code) / theirs / 1e6:.1f} | {theirs / ours:.1f}"
+            print(f"| {shape.__name__} | {len(code):,} | {speeds} | {peak:.0f} |")
+        print(f"| {shape.__name__} | 4 MiB to 64 KiB | {times[2] / times[0]:.0f} times | | | |")
+
+
+def time_run(program, folder):
+    # a loop: mov r8, 4096; a load and a store of 8 bytes; add rax, rcx; nop; and back
+    body = bytes.fromhex("41b800100000 6567498b8000000000 656749898000000000 4801c8 90")
+    code = CALL_WORD + body + b"\xe9" + struct.pack("<i", -len(body) - 5)
+    path = written(folder, "loop", image(code))
+    spent, _ = best([program, "run", path, "100000000"], 6)
+    print(f"\n`run`: {100 / spent:.1f} million steps a second")
 
 
 def main():
-    program = sys.argv[1]
     with tempfile.TemporaryDirectory() as folder:
-        for name, piece in (("straight", STRAIGHT), ("jumps", JUMPS)):
-            for size in (65536, 1048576, 4194304):
-                file, code = image(piece, size)
-                paths = os.path.join(folder, "image"), os.path.join(folder, "code")
-                for path, data in zip(paths, (file, code)):
-                    with open(path, "wb") as out:
-                        out.write(data)
-                ours = seconds([program, "verify", paths[0]], b"accepted")
-                theirs = seconds(["objdump", "-D", "-b", "binary", "-m", "i386:x86-64", paths[1]], b"")
-                print(
-                    f"{name} {len(code)} bytes: verify {len(code) / ours / 1e6:.1f} MB/s, "
-                    f"objdump {len(code) / theirs / 1e6:.1f} MB/s, ratio {theirs / ours:.1f}"
-                )
+        time_verify(sys.argv[1], folder)
+        time_run(sys.argv[1], folder)
 
 
 main()

@@ -1,6 +1,6 @@
 #!/bin/sh
-# Times `confllvm verify` beside `objdump -d` on images of 64 KiB, 1 MiB and 4 MiB, of straight code and of jumps, and prints
-# bytes a second and the ratio. Wants python3 and objdump.
+# Times `confllvm verify` beside `objdump -D` on images of 64 KiB, 1 MiB and 4 MiB of five shapes, with the peak of memory, and
+# then the steps a second of `confllvm run`. Wants python3 and objdump.
 set -eu
 top=$(cd "$(dirname "$0")/.." && pwd)
 "$top/confllvm" verify "$top/examples/one.cfv" >/dev/null
