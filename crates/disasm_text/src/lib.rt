@@ -1,0 +1,19 @@
+//! A listing as text, for people: a line for each item.
+//!
+//! `listing_text` answers the lines of a listing, each with the item's flat address, its bytes and its
+//! text, exactly as `specs/ListingText.antt` says it: a row for each instruction of the table.
+//! `listing_law` says that what `code_sweep::sweep` answers meets the condition of it.
+#![tactic(auto)]
+
+
+
+
+mod instruction;
+mod line;
+mod operand;
+
+
+
+
+
+
