@@ -12,3 +12,6 @@ mod operand;
 
 pub use law::listing_law;
 pub use line::listing_text;
+
+#[cfg(test)]
+mod tests;
