@@ -1,5 +1,5 @@
 -- The parts of an instruction's text: numbers, names, memory operands and targets.
-use Rattle.std.specs.Prelude.{ℕ, suc, ◌+◌, ◌-◌, Bool, true, false, List, [], ◌∷◌, ◌++◌, length, replicate, codes, ℤ, pos, negsuc}
+use Rattle.std.specs.Prelude.{ℕ, suc, ◌-◌, Bool, true, false, List, [], ◌++◌, length, replicate, codes, ℤ, pos, negsuc}
 use Rattle.std.specs.Fmt.{decimal, digits}
 use Rattle.cv_word.specs.Arithmetic.{added}
 use Rattle.cv_word.specs.Words.{widened}
