@@ -1,0 +1,4 @@
+-- A listing as text.
+pub use Rattle.hex.specs.Hex
+pub mod Operands
+pub mod ListingText
