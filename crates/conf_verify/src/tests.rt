@@ -280,7 +280,7 @@ static PIECES: [(Rule, &[u8]); 15] = [
 
 /// For each two pieces, the first before the second: the number of the rule that is told and its place in the code, by
 /// `tools/verdicts.py pairs`.
-static PAIRS: [[(u8, u64); 15]; 15] = [
+static PAIRS: [[(u8, u32); 15]; 15] = [
     [
         (2, 8),
         (2, 8),
@@ -634,7 +634,7 @@ fn tells_one_of_two_rules(rt: HostRuntime) -> Result<(), Fail> {
             let (number, place) = PAIRS[i][j];
             let (rule, at) = told(alloc, bytes.as_slice())?;
             assert_eq!(rt; rule.map_or(0, number_of), number, "{first:?} {second:?}");
-            assert_eq!(rt; at, 0x10000 + place, "{first:?} {second:?}");
+            assert_eq!(rt; at, 0x10000 + u64::from(place), "{first:?} {second:?}");
         }
     }
     Ok(())

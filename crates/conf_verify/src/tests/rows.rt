@@ -117,7 +117,7 @@ const WORD_PLACES: [usize; 4] = [0, 13, 28, 39];
 
 /// What is told where a byte of a word of `CALLS` has its lowest bit turned: the number of the rule, 0 for acceptance, and the
 /// place in the code. By `tools/verdicts.py words`.
-const LOWEST_TURNED: [[(u8, u64); 8]; 4] = [
+const LOWEST_TURNED: [[(u8, u32); 8]; 4] = [
 [(0, 0), (2, 0), (2, 0), (2, 0), (2, 0), (2, 0), (2, 0), (2, 0)],
 [(5, 8), (2, 13), (2, 13), (2, 13), (2, 13), (2, 13), (2, 13), (2, 13)],
 [(5, 23), (2, 28), (2, 28), (2, 28), (2, 28), (2, 28), (2, 28), (2, 28)],
@@ -125,7 +125,7 @@ const LOWEST_TURNED: [[(u8, u64); 8]; 4] = [
 ];
 
 /// The same where 0x33 is added without carry, which makes each kind of word the other.
-const KIND_TURNED: [[(u8, u64); 8]; 4] = [
+const KIND_TURNED: [[(u8, u32); 8]; 4] = [
 [(2, 0), (2, 0), (2, 0), (2, 0), (2, 0), (2, 0), (2, 0), (2, 0)],
 [(2, 13), (3, 8), (2, 13), (2, 13), (2, 13), (2, 13), (2, 13), (2, 13)],
 [(2, 28), (3, 23), (2, 28), (2, 28), (2, 28), (2, 28), (2, 28), (2, 28)],
@@ -152,7 +152,7 @@ fn assert_changed(
     rt: &impl Abort,
     alloc: Global,
     change: u8,
-    table: &[[(u8, u64); 8]; 4],
+    table: &[[(u8, u32); 8]; 4],
 ) -> Result<(), Fail> {
     for (i, row) in table.iter().enumerate() {
         for (j, (rule, place)) in row.iter().enumerate() {
@@ -162,7 +162,7 @@ fn assert_changed(
             code[at] ^= change;
             let (found, address) = told_of_code(alloc, &code)?;
             assert_eq!(rt; found.map_or(0, number_of), *rule, "byte {at}");
-            assert_eq!(rt; address, if *rule == 0 { 0 } else { 0x10000 + *place }, "byte {at}");
+            assert_eq!(rt; address, if *rule == 0 { 0 } else { 0x10000 + u64::from(*place) }, "byte {at}");
         }
     }
     Ok(())
