@@ -7,7 +7,7 @@ use Rattle.code_sweep.specs.declared.item.Item.{Item}
 use Rattle.code_sweep.specs.declared.item.Item.TheVariants.{Call, Ret, Plain, ReturnUnit, CallUnit}
 use Rattle.code_sweep.specs.declared.item.Placed.{Placed}
 use Rattle.code_sweep.specs.Listing.{item_bytes, IsChain, StandsAt}
-use Rattle.conf_verify.specs.Rules.{is_word, is_call_word, call_words, plain_items, procedure_of, last_bits}
+use Rattle.conf_verify.specs.Rules.{is_word, is_call_word, call_words, other_items, procedure_of, last_bits}
 use Rattle.conf_verify.specs.Search.{BadResult, IsBadResult}
 use Rattle.taint_flow.specs.Calls.{call_bits}
 use Rattle.taint_flow.proofs.Chain.{bytes_some}
@@ -68,15 +68,15 @@ call_words_more (x ∷ xs) (suc i) p e =
     let h : call_words (take (suc i) xs) ≡ call_words (take i xs) + cond (is_call_word p.item) 1 0 = call_words_more xs i p e in
     ap (λ n. cond (is_call_word x.item) 1 0 + n) h ∙ cons_assoc (cond (is_call_word x.item) 1 0) (call_words (take i xs)) (cond (is_call_word p.item) 1 0)
 
-pub plain_items_more : (items : List Placed) (i : ℕ) (p : Placed) → slice_get items i ≡ Some p →
-    plain_items (take (suc i) items) ≡ plain_items (take i items) + cond (is_word p.item) 0 1
-plain_items_more [] i p e = absurd (none_some p e)
-plain_items_more (x ∷ xs) zero p e =
+pub other_items_more : (items : List Placed) (i : ℕ) (p : Placed) → slice_get items i ≡ Some p →
+    other_items (take (suc i) items) ≡ other_items (take i items) + cond (is_word p.item) 0 1
+other_items_more [] i p e = absurd (none_some p e)
+other_items_more (x ∷ xs) zero p e =
     let same : is_word x.item ≡ is_word p.item = ap (λ (y : Placed). is_word y.item) (some_same x p e) in
     rw same (omega arith)
-plain_items_more (x ∷ xs) (suc i) p e =
-    let h : plain_items (take (suc i) xs) ≡ plain_items (take i xs) + cond (is_word p.item) 0 1 = plain_items_more xs i p e in
-    ap (λ n. cond (is_word x.item) 0 1 + n) h ∙ cons_assoc (cond (is_word x.item) 0 1) (plain_items (take i xs)) (cond (is_word p.item) 0 1)
+other_items_more (x ∷ xs) (suc i) p e =
+    let h : other_items (take (suc i) xs) ≡ other_items (take i xs) + cond (is_word p.item) 0 1 = other_items_more xs i p e in
+    ap (λ n. cond (is_word x.item) 0 1 + n) h ∙ cons_assoc (cond (is_word x.item) 0 1) (other_items (take i xs)) (cond (is_word p.item) 0 1)
 
 -- the counts, as loops over items by index make them
 pub counted_call : (items : List Placed) (i before step : ℕ) (d : Placed) → i < length items → before ≡ call_words (take i items) →
@@ -100,10 +100,10 @@ turned : (b : Bool) → ◌≡◌ {A = ℕ} (cond (not b) 1 0) (cond b 0 1)
 turned true = refl
 turned false = refl
 
-pub counted_plain : (items : List Placed) (i before step : ℕ) (d : Placed) → i < length items → before ≡ plain_items (take i items) →
-    step ≡ cond (not (is_word (get_or items i d).item)) 1 0 → before + step ≡ plain_items (take (i + 1) items)
-counted_plain items i before step d inside e f =
-    let h = plain_items_more items i (get_or items i d) (slice_get-get_or items i d inside) in
+pub counted_others : (items : List Placed) (i before step : ℕ) (d : Placed) → i < length items → before ≡ other_items (take i items) →
+    step ≡ cond (not (is_word (get_or items i d).item)) 1 0 → before + step ≡ other_items (take (i + 1) items)
+counted_others items i before step d inside e f =
+    let h = other_items_more items i (get_or items i d) (slice_get-get_or items i d inside) in
     let g = turned (is_word (get_or items i d).item) in
     rw (add-one, h, e, f, g) refl
 

@@ -6,7 +6,7 @@ use Rattle.image_form.specs.declared.parts.Parts.{Parts}
 use Rattle.code_sweep.specs.declared.item.Placed.{Placed}
 use Rattle.conf_verify.specs.declared.verdict.VerifyError.{VerifyError}
 use Rattle.conf_verify.specs.declared.verdict.VerifyError.TheVariants.{NoMemory, Refused}
-use Rattle.conf_verify.specs.Rules.{call_words, plain_items}
+use Rattle.conf_verify.specs.Rules.{call_words, other_items}
 use Rattle.conf_verify.specs.Verdict.{IsVerdict, HasListing}
 
 -- an image that was checked, with the numbers of its procedures and of its items that are no words
@@ -27,7 +27,7 @@ pub record HasCounts (checked : Checked) : Type 0 where
   pub listing : List Placed
   pub is : HasListing checked.image listing
   pub procedures_is : call_words listing ≡ checked.procedures
-  pub items_is : plain_items listing ≡ checked.items
+  pub items_is : other_items listing ≡ checked.items
 
 -- a refusal tells the verdict; want of memory tells nothing
 abbrev pub IsRefusal : List ℕ → VerifyError → Type 0

@@ -59,9 +59,9 @@ abbrev pub call_words : List Placed → ℕ
 call_words [] = 0
 call_words (p ∷ ps) = (if is_call_word p.item then 1 else 0) + call_words ps
 
-abbrev pub plain_items : List Placed → ℕ
-plain_items [] = 0
-plain_items (p ∷ ps) = (if is_word p.item then 0 else 1) + plain_items ps
+abbrev pub other_items : List Placed → ℕ
+other_items [] = 0
+other_items (p ∷ ps) = (if is_word p.item then 0 else 1) + other_items ps
 
 -- the procedure of an item is told by the number of call words up to it
 abbrev pub procedure_of : List Placed → ℕ → ℕ

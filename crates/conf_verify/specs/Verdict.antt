@@ -16,7 +16,7 @@ pub record IsImage (bytes : List ℕ) (image : Image) : Type 0 where
   pub one_entry : length image.entries ≡ 1
   pub spelled : bytes ≡ spelling image
 
--- V1: the least place of the file where the form is wrong. So far a count of entries other than 1 is wrong at its place.
+-- V1: a place of the file where the form is wrong. So far a count of entries other than 1 is wrong at its place.
 abbrev pub IsWrongForm : List ℕ → ℕ → Type 0
 IsWrongForm bytes place = IsWrongAt bytes place ⊎ ((place ≡ 5) × (slice_index bytes 5 ≢ 1))
 

@@ -7,7 +7,7 @@ pub enum Rule {
     V1,
     /// The code is one chain of items.
     V2,
-    /// The first item is a call word, and a procedure ends with a jump, UD2 or a return unit.
+    /// The first item is a call word, and a procedure ends with JMP, UD2 or a return unit.
     V3,
     /// The prefix occurs in words alone.
     V4,
@@ -21,7 +21,7 @@ pub enum Rule {
     V8,
     /// An entry stands behind a call word.
     V9,
-    /// The address of an access to memory is public.
+    /// The address of an access to memory is public, and the register of a call unit.
     V10,
     /// A store to the public segment is of a public register.
     V11,

@@ -6,7 +6,7 @@ ghost use Rattle.taint_flow.specs.Places.{NumbersItems, number_at};
 ghost use Rattle.conf_verify.specs.declared.rule.Rule.{Rule};
 ghost use Rattle.conf_verify.specs.declared.rule.Rule.TheVariants.{V1};
 ghost use Rattle.conf_verify.specs.declared.verdict.VerifyError.TheVariants.{NoMemory, Refused};
-ghost use Rattle.conf_verify.specs.Rules.{BreaksShape, call_words, plain_items};
+ghost use Rattle.conf_verify.specs.Rules.{BreaksShape, call_words, other_items};
 ghost use Rattle.conf_verify.specs.Steps.{IsCodeRefusal, HoldsBelow};
 ghost use Rattle.image_form.specs.Image.{IsGood};
 ghost use Rattle.conf_verify.specs.Verdict.{IsImage, IsAccepted, IsAcceptedImage, HasListing};
@@ -156,7 +156,7 @@ fn check_code(alloc: Global, parts: &Parts<'_>) -> Result<Counts, VerifyError>
 fn count_items(items: &[Placed]) -> Counts
     requires { length items.now < 2 ^ 32 }
     ensures procedures { result.procedures ≡ call_words items.now }
-    ensures items { result.items ≡ plain_items items.now }
+    ensures items { result.items ≡ other_items items.now }
 {
     let mut procedures = 0;
     let mut plain = 0;

@@ -2,7 +2,7 @@
 use Rattle.std.specs.Prelude.{ℕ, ◌+◌, ◌-◌, ◌*◌, ◌/◌, ◌%◌, ◌==◌, ◌&&◌, List, [], ◌∷◌, Option, None, slice_get, nat_le, if◌then◌else◌}
 
 -- For each gate by its number what a caller may leave private, as in a call word: bits 0 to 3 say it of rdi, rsi, rdx and
--- rcx, set for those that the gate doesn't read; bit 4 says that its result in rax is private.
+-- rcx, and are set for all that the gate doesn't read; bit 4 says that its result in rax is private.
 abbrev pub gate_table : List ℕ
 gate_table =
     -- exit, core_end

@@ -51,7 +51,8 @@ pub record AtItem (items : List Placed) (labels : Labelling) (s t : Registers) :
 abbrev pub inside_label : Label → Label
 inside_label l = set_reg Gpr10 true (set_reg Gpr11 true (set flags true l))
 
--- what is public before the unit is equal; r10 holds the address that is checked, the same in both and below 2 ^ 32
+-- what is public before the unit is equal; r10 holds the address that is checked, past the addition that of what follows the
+-- word, the same in both and below 2 ^ 32
 pub record InUnit (l : Label) (s t : Registers) : Type 0 where
   pub equal : Equal (inside_label l) s t
   pub checked : value s Gpr10 ≡ value t Gpr10

@@ -20,7 +20,7 @@ pub record Secret : Type 0 where
   pub segment : List ℕ
   pub private_input : List ℕ
 
--- Core i starts behind the call word of its entry. Its stack ends i stacks below the public segment's end.
+-- Core i starts at its entry, which of accepted bytes is the place behind a call word. Its stack ends i stacks below the public segment's end.
 abbrev pub start_registers : Image → ℕ → ℕ → Registers
 start_registers image i entry = record {
   r = slice_set (replicate 16 0) (number Rsp) (public_base + (image.seg_size - i * image.stack_size));

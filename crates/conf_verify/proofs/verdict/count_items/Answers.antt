@@ -1,5 +1,5 @@
 use Rattle.std.proofs.Common.{arith, ◌∙◌, sym, ap, not, cond, ◌≤◌, ◌+◌}
-use Rattle.conf_verify.proofs.Chains.{counted_call, counted_plain}
+use Rattle.conf_verify.proofs.Chains.{counted_call, counted_others}
 use Rattle.conf_verify.proofs.verdict.count_items.Goals as goal
 
 pub loop-i-preserved : goal.loop-i-preserved
@@ -11,7 +11,7 @@ loop-i-preserved c =
     record {
       procedures = counted_call c.args.items.now c.loop-i.i c.loop-i.procedures c.one_where-procedures.result _ c.loop-i-test.true c.loop-i.invariant.procedures
           (c.one_where-procedures.ensures.value ∙ ap (λ b. cond b 1 0) c.is_call_word.ensures);
-      plain = counted_plain c.args.items.now c.loop-i.i c.loop-i.plain c.one_where-plain.result _ c.loop-i-test.true c.loop-i.invariant.plain
+      plain = counted_others c.args.items.now c.loop-i.i c.loop-i.plain c.one_where-plain.result _ c.loop-i-test.true c.loop-i.invariant.plain
           (c.one_where-plain.ensures.value ∙ ap (λ b. cond (not b) 1 0) c.is_word.ensures);
       few = omega arith;
       few_plain = omega arith;
