@@ -211,8 +211,7 @@ stage_inverts prefix code items labels size public mine yours s t a u =
 compared_zero : (code word : List ℕ) (x at : ℕ) → AreBytes code → AreBytes word → length word ≡ 8 → code_base ≤ at → at + 8 ≤ code_base + length code → x ≡ little_endian word →
     ((flags_subtracted x (little_endian (take 8 (drop (at - code_base) code)))).zf ≡ true) ↔ WordStands code word at
 compared_zero code word x at bytes word_bytes long low fits is =
-    let v : ℕ = little_endian (take 8 (drop (at - code_base) code)) in
-    (
+    let v : ℕ = little_endian (take 8 (drop (at - code_base) code)) in (
       λ z. word_found code word at bytes word_bytes long low fits (ap (λ n. subtracted n v) (sym is) ∙ eqb-true (subtracted x v) 0 z),
       λ w. eq-eqb (subtracted x v) 0 (ap (λ n. subtracted n v) is ∙ word_lost code word at word_bytes long w),
     )
@@ -264,7 +263,7 @@ stage_compares prefix code items labels size public mine yours s t a u bytes =
     let next : ℕ = code_base + (a.p.at + a.start + 13) + 8 in
     let Q : Effect → Type 0 = λ x. StepsAlike prefix code items labels size x (executed CmpFlat next (memory size code public yours) t) in
     let o : Option ℕ = cond (nat_le code_base (value s Gpr10) && nat_le (value s Gpr10 + 8) (code_base + length code))
-        (Some (little_endian (take 8 (drop (value s Gpr10 - code_base) code)))) None in
+    (Some (little_endian (take 8 (drop (value s Gpr10 - code_base) code)))) None in
     let R : Effect → Type 0 = λ y. StepsAlike prefix code items labels size (after_comparison o next (memory size code public mine) s) y in
     both_fetched prefix code items labels size public mine yours s t (a.p.at + a.start + 13) CmpFlat (omega (arith, a.here)) a.inside.equal.under.counters u.check.compares
     (subst Q (sym (compared size code public mine s (value s Gpr10) next refl a.inside.small))
@@ -290,7 +289,7 @@ stage_branches prefix code items labels size public mine yours s t a u limit =
     let same : s.flags ≡ t.flags = a.flags refl in
     let zero_same : s.flags.zf ≡ t.flags.zf = ap (λ (f : Flags). f.zf) same in
     let R : Bool → Type 0 = λ z. StepsAlike prefix code items labels size
-        (goes_on (cond s.flags.zf (target_of next (pos 2)) next) (memory size code public mine) s) (goes_on (cond z (target_of next (pos 2)) next) (memory size code public yours) t) in
+    (goes_on (cond s.flags.zf (target_of next (pos 2)) next) (memory size code public mine) s) (goes_on (cond z (target_of next (pos 2)) next) (memory size code public yours) t) in
     both_fetched prefix code items labels size public mine yours s t (a.p.at + a.start + 21) (Jcc E (pos 2)) (omega (arith, a.here)) a.inside.equal.under.counters u.check.branches
     (subst R zero_same
     (branch_steps prefix code items labels size public mine yours s t s.flags.zf (target_of next (pos 2)) next
@@ -366,9 +365,13 @@ stage_advances prefix code items labels size public mine yours s t a u limit =
       here = omega arith;
       inside = in_unit_moved (labels a.i) (put Gpr10 v (flagged f s)) (put Gpr10 w (flagged g t)) next
           (in_unit_ten (labels a.i) (flagged f s) (flagged g t) v w flagged_alike.equal same small);
-      mine = (value_other (flagged f s) Gpr10 Gpr11 v eleven_ten ∙ a.mine.0,
-          (value s Gpr10, value_same (flagged f s) Gpr10 Gpr10 v a.inside.equal.under.mine refl ∙ up, a.mine.1));
-      yours = (value_other (flagged g t) Gpr10 Gpr11 w eleven_ten ∙ a.yours.0,
-          (value t Gpr10, value_same (flagged g t) Gpr10 Gpr10 w a.inside.equal.under.yours refl ∙ up', a.yours.1));
+      mine = (
+        value_other (flagged f s) Gpr10 Gpr11 v eleven_ten ∙ a.mine.0,
+        (value s Gpr10, value_same (flagged f s) Gpr10 Gpr10 v a.inside.equal.under.mine refl ∙ up, a.mine.1),
+      );
+      yours = (
+        value_other (flagged g t) Gpr10 Gpr11 w eleven_ten ∙ a.yours.0,
+        (value t Gpr10, value_same (flagged g t) Gpr10 Gpr10 w a.inside.equal.under.yours refl ∙ up', a.yours.1),
+      );
       flags = λ h. ap (λ x. alu_flags alu.Add x (widened (pos 8))) a.inside.checked;
     })))

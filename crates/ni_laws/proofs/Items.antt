@@ -183,8 +183,11 @@ word_item : (prefix code : List ℕ) (items : List Placed) (place : ℕ) → ((p
 word_item prefix code items place fine occurs =
     elim (search_items items (is_word_at place)) [
       | found j q e passes ↦ let a = and_parts (is_word q.item) (eqb (q.at + 2) place) passes in (j, q, e, a.0, eqb-true (q.at + 2) place a.1)
-      | nowhere none ↦ absurd (fine place (occurs, λ i p e word at.
-          true≢false (sym (and_from (is_word p.item) (eqb (p.at + 2) place) word (eq-eqb (p.at + 2) place at)) ∙ none i p e)))
+      | nowhere none ↦ absurd (fine place (
+        occurs,
+        λ i p e word at.
+            true≢false (sym (and_from (is_word p.item) (eqb (p.at + 2) place) word (eq-eqb (p.at + 2) place at)) ∙ none i p e),
+      ))
     ]
 
 first_cell : (a b c d : ℕ) (xs ys : List ℕ) → a ∷ (b ∷ xs) ≡ c ∷ (d ∷ ys) → a ≡ c

@@ -154,7 +154,7 @@ both_calls : (prefix code : List ℕ) (items : List Placed) (labels : Labelling)
     StepsAlike prefix code items labels size (calls target next (memory size code public mine) s) (calls target next (memory size code public yours) t)
 both_calls prefix code items labels size target next public mine yours l s t e standing =
     let R : ℕ → Type 0 = λ v. StepsAlike prefix code items labels size (calls target next (memory size code public mine) s)
-        (after_push (flat_stored (memory size code public yours) (subtracted v 8) next) target t) in
+    (after_push (flat_stored (memory size code public yours) (subtracted v 8) next) target t) in
     subst R e.stack
     (after_pushes prefix code items labels size target s t _ _ (pushes size code public mine yours (subtracted (value s Rsp) 8) next) standing)
 
@@ -255,7 +255,7 @@ return_start prefix code items labels facts size public mine yours s t a bytes b
     let same : loaded (memory size code public mine) Fs offset 4 ≡ loaded (memory size code public yours) Fs (offset_of t mem) 4 =
     same_load size code public mine yours offset 4 ∙ ap (λ v. loaded (memory size code public yours) Fs (operand_offset v (pos 0)) 4) a.equal.stack in
     let R : Option ℕ → Type 0 = λ o. StepsAlike prefix code items labels size
-        (after_load (loaded (memory size code public mine) Fs offset 4) (λ v. v) Gpr10 next (memory size code public mine) s) (after_load o (λ v. v) Gpr10 next (memory size code public yours) t) in
+    (after_load (loaded (memory size code public mine) Fs offset 4) (λ v. v) Gpr10 next (memory size code public mine) s) (after_load o (λ v. v) Gpr10 next (memory size code public yours) t) in
     both_fetched prefix code items labels size public mine yours s t a.p.at (Load false Gpr10 mem) a.here a.equal.under.counters parts.first
     (subst R same (raise_steps prefix code items labels size public mine yours s t a bit next (loaded (memory size code public mine) Fs offset 4) is refl
     (λ v e. small_load size code public mine offset v bytes e)))
