@@ -7,9 +7,11 @@
 mod gates;
 mod no_memory;
 mod registers;
+mod steps;
 mod words;
 
 pub use gates::gate_bits;
 pub use no_memory::NoMemory;
 pub use registers::{Flags, Registers, Taint};
+pub use steps::Steps;
 pub use words::{le32, le64, put_le, sext};
