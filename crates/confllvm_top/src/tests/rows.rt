@@ -271,10 +271,83 @@ pub static CODES: [(&[u8], &[u8], u8, &[u8]); 44] = [
     ),
 ];
 
-/// A code behind its call word, the number of entries, the exit status and the line. The two codes of eight instructions
+/// A code behind its call word, the number of entries, the exit status and the line. The first twelve load and store by
+/// displacements of either sign, around offset 4096 and the segment's end. The two codes of eight instructions
 /// store 42 at offset 2^32 + 4096, which is 4096, load it back and branch on whether it is 42. The last two are the
 /// same call of itself, which fills 61,440 bytes of the stack before it faults.
-pub static RUNS: [(&[u8], &str, u8, &[u8]); 23] = [
+pub static RUNS: [(&[u8], &str, u8, &[u8]); 35] = [
+    (
+        b"\x0f\x11\xa1\xa2\xa3\xa4\xa5\xa6\x41\xb8\x00\x20\x00\x00\x64\x67\x49\x8b\x80\x00\xf0\xff\xff\x0f\x0b",
+        "9",
+        5,
+        b"fault core 0 at 0x10017 Undefined\n",
+    ),
+    (
+        b"\x0f\x11\xa1\xa2\xa3\xa4\xa5\xa6\x41\xb8\xff\x1f\x00\x00\x64\x67\x49\x8b\x80\x00\xf0\xff\xff\x0f\x0b",
+        "9",
+        5,
+        b"fault core 0 at 0x1000e Memory\n",
+    ),
+    (
+        b"\x0f\x11\xa1\xa2\xa3\xa4\xa5\xa6\x41\xb8\xff\xff\xff\xff\x64\x67\x49\x8b\x80\x01\x10\x00\x00\x0f\x0b",
+        "9",
+        5,
+        b"fault core 0 at 0x10017 Undefined\n",
+    ),
+    (
+        b"\x0f\x11\xa1\xa2\xa3\xa4\xa5\xa6\x41\xb8\xfc\xff\x00\x00\x64\x67\x49\x8b\x80\xfc\xff\xff\xff\x0f\x0b",
+        "9",
+        5,
+        b"fault core 0 at 0x10017 Undefined\n",
+    ),
+    (
+        b"\x0f\x11\xa1\xa2\xa3\xa4\xa5\xa6\x41\xb8\xfc\xff\x00\x00\x64\x67\x49\x8b\x80\xfd\xff\xff\xff\x0f\x0b",
+        "9",
+        5,
+        b"fault core 0 at 0x1000e Memory\n",
+    ),
+    (
+        b"\x0f\x11\xa1\xa2\xa3\xa4\xa5\xa6\x41\xb8\xf8\xff\xff\xff\x64\x67\x49\x8b\x80\x00\x00\x00\x80\x0f\x0b",
+        "9",
+        5,
+        b"fault core 0 at 0x1000e Memory\n",
+    ),
+    (
+        b"\x0f\x11\xa1\xa2\xa3\xa4\xa5\xa6\x41\xb8\x00\x20\x00\x00\x64\x67\x4d\x89\x80\x00\xf0\xff\xff\x0f\x0b",
+        "9",
+        5,
+        b"fault core 0 at 0x10017 Undefined\n",
+    ),
+    (
+        b"\x0f\x11\xa1\xa2\xa3\xa4\xa5\xa6\x41\xb8\xff\x1f\x00\x00\x64\x67\x4d\x89\x80\x00\xf0\xff\xff\x0f\x0b",
+        "9",
+        5,
+        b"fault core 0 at 0x1000e Memory\n",
+    ),
+    (
+        b"\x0f\x11\xa1\xa2\xa3\xa4\xa5\xa6\x41\xb8\xff\xff\xff\xff\x64\x67\x4d\x89\x80\x01\x10\x00\x00\x0f\x0b",
+        "9",
+        5,
+        b"fault core 0 at 0x10017 Undefined\n",
+    ),
+    (
+        b"\x0f\x11\xa1\xa2\xa3\xa4\xa5\xa6\x41\xb8\xfc\xff\x00\x00\x64\x67\x4d\x89\x80\xfc\xff\xff\xff\x0f\x0b",
+        "9",
+        5,
+        b"fault core 0 at 0x10017 Undefined\n",
+    ),
+    (
+        b"\x0f\x11\xa1\xa2\xa3\xa4\xa5\xa6\x41\xb8\xfc\xff\x00\x00\x64\x67\x4d\x89\x80\xfd\xff\xff\xff\x0f\x0b",
+        "9",
+        5,
+        b"fault core 0 at 0x1000e Memory\n",
+    ),
+    (
+        b"\x0f\x11\xa1\xa2\xa3\xa4\xa5\xa6\x41\xb8\xf8\xff\xff\xff\x64\x67\x4d\x89\x80\x00\x00\x00\x80\x0f\x0b",
+        "9",
+        5,
+        b"fault core 0 at 0x1000e Memory\n",
+    ),
     (
         b"\x0f\x11\xa1\xa2\xa3\xa4\xa5\xa6\x0f\x0b",
         "5",
