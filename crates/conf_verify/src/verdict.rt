@@ -18,14 +18,15 @@ use crate::shape::{
     CODE_BASE, bad_end, bad_jump, bad_occurrence, follows_call_word, is_call_word, is_word,
     one_where, procedure_numbers,
 };
-use crate::taint::bad_label;
+use crate::taint::{bad_label, least_labels};
 use code_sweep::{Listing, Placed, SweepError, sweep};
 use cv_word::NoMemory;
 use image_form::{Parts, read_image};
 use magic_words::occurrences;
 use std::alloc::Global;
-use std::marker::Model;
-use taint_flow::{ItemNumbers, item_numbers, label_code};
+use std::marker::{Brand, Model};
+use std::sync::ledger::Blank;
+use taint_flow::{ItemNumbers, item_numbers};
 
 /// The place in a file of the number of entries.
 const ENTRY_COUNT: u32 = 5;
@@ -361,7 +362,7 @@ fn check_flow(
     ensures holds { OnOk result (IsAcceptedImage (image_of parts.now)) }
     ensures refused { IfErr result (λ error. IsCodeRefusal (image_of parts.now) error) }
 {
-    let labels = label_code(alloc, listing)?;
+    let labels = least_labels::<Brand>(alloc, listing, Blank::new(1))?;
     let items = listing.items.as_slice();
     match bad_label(items, numbers, &labels) {
         Some((i, rule)) => Err(refused(rule, items[i].at)),

@@ -1,14 +1,14 @@
 -- Labels as numbers: one bit read and written, and their union.
-use Rattle.std.proofs.Common.{subst, ◌≡◌, ℕ, ◌+◌, ◌*◌, ◌%◌, ◌^◌, ◌<◌, ◌≤◌, ◌≢◌, Bool, true, false, not, ◌&&◌, eqb, leb, refl, sym, ◌∙◌, ap, arith, inl, inr, ◌⊎◌}
+use Rattle.std.proofs.Common.{subst, ◌≡◌, ℕ, ◌+◌, ◌*◌, ◌%◌, ◌^◌, ◌<◌, ◌≤◌, ◌≢◌, Bool, true, false, not, ◌&&◌, eqb, leb, max, refl, sym, ◌∙◌, ap, arith, inl, inr, ◌⊎◌}
 use Rattle.std.specs.Int.{bit_at}
-use Rattle.std.specs.Int.RustNames.{bit_xor}
-use Rattle.std.proofs.lemmas.Nat.Bits.{bit_at_xor, bit_at-pow_same, bit_at-pow_other, bit_at-lt, bit_at_above}
-use Rattle.std.proofs.lemmas.Bool.{cases_eq, eq-eqb, ne_eqb, cond-true, cond-false, agree_below_at, lt-leb, cases_lt, true≢false, false≢true, and_left}
+use Rattle.std.specs.Int.RustNames.{bit_or, bit_xor}
+use Rattle.std.proofs.lemmas.Nat.Bits.{bit_at_or, bit_at_xor, bit_at-pow_same, bit_at-pow_other, bit_at-lt, bit_at_above}
+use Rattle.std.proofs.lemmas.Bool.{cases_eq, eq-eqb, eqb-true, ne_eqb, cond-true, cond-false, agree_below_at, lt-leb, cases_lt, true≢false, false≢true, and_left}
 use Rattle.std.proofs.lemmas.Nat.{one_shl}
 use mathlib.Core.Path.{fun_ext}
 use mathlib.Core.Bool.{beq}
 use Rattle.x64_decode.specs.declared.instr.Reg.TheVariants.{Rcx, Rdx, Rsi, Rdi}
-use Rattle.taint_flow.specs.Label.{Label, set, set_reg, entry_label}
+use Rattle.taint_flow.specs.Label.{Label, IsAtMost, set, set_reg, entry_label}
 use Rattle.taint_flow.specs.Bits.{label_of}
 
 turned : (b : ℕ) → b < 2 → (private : Bool) → (eqb b 1 ≡ private → ⊥) → eqb ((b + 1) % 2) 1 ≡ private
@@ -77,3 +77,30 @@ beq_apart true true h e = true≢false h
 beq_apart false false h e = true≢false h
 beq_apart true false h e = true≢false e
 beq_apart false true h e = false≢true e
+
+-- the union of two labels
+pub at_most_left : (a b : ℕ) → IsAtMost (label_of a) (label_of (bit_or a b))
+at_most_left a b k h =
+    let one : bit_at a k ≡ 1 = eqb-true _ _ h in
+    let small : bit_at b k < 2 = bit_at-lt b k in
+    eq-eqb _ _ (rw bit_at_or (omega arith))
+
+pub at_most_right : (a b : ℕ) → IsAtMost (label_of b) (label_of (bit_or a b))
+at_most_right a b k h =
+    let one : bit_at b k ≡ 1 = eqb-true _ _ h in
+    let small : bit_at a k < 2 = bit_at-lt a k in
+    eq-eqb _ _ (rw bit_at_or (omega arith))
+
+bit_cases : (a b k : ℕ) → bit_at (bit_or a b) k ≡ 1 → (bit_at a k ≡ 1) ⊎ (bit_at b k ≡ 1)
+bit_cases a b k h =
+    let is : max (bit_at a k) (bit_at b k) ≡ 1 = sym (bit_at_or a b k) ∙ h in
+    let small : bit_at a k < 2 = bit_at-lt a k in
+    elim (cases_eq (bit_at a k) 1) [ inl e ↦ inl e | inr n ↦ inr (omega arith) ]
+
+union_at : (a b : ℕ) (m : Label) (k : ℕ) → IsAtMost (label_of a) m → IsAtMost (label_of b) m →
+    (bit_at a k ≡ 1) ⊎ (bit_at b k ≡ 1) → m k ≡ true
+union_at a b m k h g (inl e) = h k (eq-eqb _ _ e)
+union_at a b m k h g (inr e) = g k (eq-eqb _ _ e)
+
+pub union_at_most : (a b : ℕ) (m : Label) → IsAtMost (label_of a) m → IsAtMost (label_of b) m → IsAtMost (label_of (bit_or a b)) m
+union_at_most a b m h g k one = union_at a b m k h g (bit_cases a b k (eqb-true _ _ one))

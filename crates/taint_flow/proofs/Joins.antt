@@ -1,48 +1,19 @@
 -- A join: one label takes in another, and the item is queued.
-use Rattle.std.proofs.Common.{subst, ◌≡◌, ℕ, ◌+◌, ◌-◌, ◌^◌, ◌<◌, ◌≤◌, ◌≢◌, Bool, true, false, List, [], ◌∷◌, ◌++◌, length, set, get_or, sym, ◌∙◌, ap, arith, max, Option, Some, inl, inr, ◌⊎◌}
-use Rattle.std.specs.Prelude.{All, Contains}
-use Rattle.std.specs.List.{sum_by}
-use Rattle.std.specs.Int.{bit_at}
+use Rattle.std.proofs.Common.{subst, ◌≡◌, ℕ, ◌+◌, ◌-◌, ◌<◌, ◌≤◌, ◌≢◌, Bool, true, false, cond, eqb, List, [], ◌∷◌, ◌++◌, length, set, get_or, sym, ◌∙◌, ap, arith, Option, Some, inl, inr, ◌⊎◌}
+use Rattle.std.specs.List.{sum_by, count_by}
 use Rattle.std.specs.Int.RustNames.{bit_or}
-use Rattle.std.proofs.lemmas.Nat.{le_or_l}
 use Rattle.std.proofs.lemmas.Option.{same_Some}
-use Rattle.std.proofs.lemmas.Nat.Bits.{bit_at_or, bit_at-lt}
-use Rattle.std.proofs.lemmas.Bool.{cases_eq, eq-eqb, eqb-true, true≢false}
-use Rattle.std.proofs.lemmas.List.{length-set, get_or-set_same, get_or-set_other, length_push, set-get_or, get_or_read}
-use Rattle.std.proofs.lemmas.List.Elements.{All-push, Contains-push, Contains-append_left}
-use Rattle.std.proofs.lemmas.List.Sums.{sum_by-set}
+use Rattle.std.proofs.lemmas.Bool.{cases_eq, eq-eqb, ne_eqb, true≢false}
+use Rattle.std.proofs.lemmas.List.{length-set, get_or-set_same, get_or-set_other, length_push, get_or_read}
+use Rattle.std.proofs.lemmas.List.Elements.{All-push}
+use Rattle.std.proofs.lemmas.List.Sums.{sum_by-set, sum_by_push, count_by-le-length}
 use Rattle.taint_flow.specs.Label.{Label, IsAtMost}
 use Rattle.taint_flow.specs.Flow.{Labelling}
 use Rattle.taint_flow.specs.Bits.{label_of, labelling_of, public_bits}
 use Rattle.taint_flow.specs.declared.label.Label.{Label as LabelBits}
-use Rattle.taint_flow.specs.Worklist.{State, label_at, is_queued, IsWhole, IsBelow, room_above, Rises}
-
--- the union of two labels
-pub at_most_left : (a b : ℕ) → IsAtMost (label_of a) (label_of (bit_or a b))
-at_most_left a b k h =
-    let one : bit_at a k ≡ 1 = eqb-true _ _ h in
-    let small : bit_at b k < 2 = bit_at-lt b k in
-    eq-eqb _ _ (rw bit_at_or (omega arith))
-
-pub at_most_right : (a b : ℕ) → IsAtMost (label_of b) (label_of (bit_or a b))
-at_most_right a b k h =
-    let one : bit_at b k ≡ 1 = eqb-true _ _ h in
-    let small : bit_at a k < 2 = bit_at-lt a k in
-    eq-eqb _ _ (rw bit_at_or (omega arith))
-
-bit_cases : (a b k : ℕ) → bit_at (bit_or a b) k ≡ 1 → (bit_at a k ≡ 1) ⊎ (bit_at b k ≡ 1)
-bit_cases a b k h =
-    let is : max (bit_at a k) (bit_at b k) ≡ 1 = sym (bit_at_or a b k) ∙ h in
-    let small : bit_at a k < 2 = bit_at-lt a k in
-    elim (cases_eq (bit_at a k) 1) [ inl e ↦ inl e | inr n ↦ inr (omega arith) ]
-
-union_at : (a b : ℕ) (m : Label) (k : ℕ) → IsAtMost (label_of a) m → IsAtMost (label_of b) m →
-    (bit_at a k ≡ 1) ⊎ (bit_at b k ≡ 1) → m k ≡ true
-union_at a b m k h g (inl e) = h k (eq-eqb _ _ e)
-union_at a b m k h g (inr e) = g k (eq-eqb _ _ e)
-
-pub union_at_most : (a b : ℕ) (m : Label) → IsAtMost (label_of a) m → IsAtMost (label_of b) m → IsAtMost (label_of (bit_or a b)) m
-union_at_most a b m h g k one = union_at a b m k h g (bit_cases a b k (eqb-true _ _ one))
+use Rattle.taint_flow.specs.Worklist.{State, label_at, is_queued, IsWhole, IsBelow, all_private, private_names, room_above, Rises}
+use Rattle.taint_flow.proofs.Bits.{at_most_left, at_most_right, union_at_most}
+use Rattle.taint_flow.proofs.Names.{names_most, names_rise}
 
 -- a label set in a list of labels
 pub set_at_same : (labels : List LabelBits) (j : ℕ) (l : LabelBits) → j < length labels → labelling_of (set labels j l) j ≡ label_of l.bits
@@ -83,28 +54,25 @@ read_label labels j x h e = ap (λ (y : LabelBits). label_of y.bits) (get_or_rea
 
 -- the work that is left
 work_falls : (labels : List LabelBits) (j before joined : ℕ) → j < length labels → before ≡ (get_or labels j public_bits).bits →
-    before < 2 ^ 32 → before < joined → sum_by room_above (with_bits labels j joined) + 1 ≤ sum_by room_above labels
-work_falls labels j before joined h was small more =
-    let e : sum_by room_above (with_bits labels j joined) + (2 ^ 32 - (get_or labels j public_bits).bits) ≡ sum_by room_above labels + (2 ^ 32 - joined) =
+    private_names 17 (label_of before) < private_names 17 (label_of joined) →
+    sum_by room_above (with_bits labels j joined) + 1 ≤ sum_by room_above labels
+work_falls labels j before joined h was more =
+    let e : sum_by room_above (with_bits labels j joined) + (17 - private_names 17 (label_of (get_or labels j public_bits).bits)) ≡
+    sum_by room_above labels + (17 - private_names 17 (label_of joined)) =
     sum_by-set room_above labels j (record { bits = joined }) public_bits h in
+    let same : private_names 17 (label_of before) ≡ private_names 17 (label_of (get_or labels j public_bits).bits) =
+    ap (λ (n : ℕ). private_names 17 (label_of n)) was in
+    let most : private_names 17 (label_of joined) ≤ 17 = names_most 17 (label_of joined) in
     omega arith
-
-grown : (before out : ℕ) → (bit_or before out ≡ before → ⊥) → before < bit_or before out
-grown before out n = let le : before ≤ bit_or before out = le_or_l before out in omega arith
 
 queued_cases : (queued : List Bool) (j i : ℕ) → j < length queued → get_or (set queued j true) i false ≡ false → (i ≡ j → ⊥)
 queued_cases queued j i h f e = true≢false (sym (get_or-set_same queued j true false h) ∙ (ap (λ (n : ℕ). get_or (set queued j true) n false) (sym e) ∙ f))
 
-stacked_at : (queued : List Bool) (stack : List ℕ) (j i : ℕ) → Contains stack j →
-    (get_or queued i false ≡ true → Contains stack i) → (i ≡ j) ⊎ (i ≡ j → ⊥) → get_or (set queued j true) i false ≡ true → Contains stack i
-stacked_at queued stack j i here there (inl e) q = subst (λ (n : ℕ). Contains stack n) (sym e) here
-stacked_at queued stack j i here there (inr n) q = there (sym (get_or-set_other queued j i true false n) ∙ q)
-
--- how the stack may change beside it
-pub record Stacks (s : State) (j : ℕ) (stack : List ℕ) : Type 0 where
-  pub inside : (count : ℕ) → j < count → All (λ k. k < count) s.stack → All (λ k. k < count) stack
-  pub kept : (i : ℕ) → Contains s.stack i → Contains stack i
-  pub here : ((i : ℕ) → is_queued s i ≡ true → Contains s.stack i) → Contains stack j
+-- the flags and the stack with item j queued
+pub record Queues (s : State) (j : ℕ) (queued : List Bool) (stack : List ℕ) (room : ℕ) : Type 0 where
+  pub whole : (count : ℕ) → j < count → IsWhole count s →
+      IsWhole count (record { labels = s.labels; queued = queued; stack = stack; room = room })
+  pub told : (i : ℕ) → get_or queued i false ≡ false → (is_queued s i ≡ false) × (i ≡ j → ⊥)
   pub short : length stack ≤ length s.stack + 1
 
 -- what the code read and found
@@ -112,40 +80,46 @@ pub record Reads (s : State) (j before out : ℕ) : Type 0 where
   pub inside : j < length s.labels
   pub flags : length s.queued ≡ length s.labels
   pub was : before ≡ (get_or s.labels j public_bits).bits
-  pub small : before < 2 ^ 32
+  pub names : IsAtMost (label_of out) all_private
   pub differs : bit_or before out ≡ before → ⊥
 
-abbrev pub joined_state : State → ℕ → ℕ → List ℕ → State
-joined_state s j bits stack = record { labels = with_bits s.labels j bits; queued = set s.queued j true; stack = stack }
+abbrev pub joined_state : State → ℕ → ℕ → List Bool → List ℕ → ℕ → State
+joined_state s j bits queued stack room = record { labels = with_bits s.labels j bits; queued = queued; stack = stack; room = room }
 
 was_label : (s : State) (j before out : ℕ) → Reads s j before out → label_of before ≡ labelling_of s.labels j
 was_label s j before out r = ap (λ (n : ℕ). label_of n) r.was
 
-whole_joined : (s : State) (j bits : ℕ) (stack : List ℕ) → j < length s.labels → Stacks s j stack → (count : ℕ) → IsWhole count s →
-    IsWhole count (joined_state s j bits stack)
-whole_joined s j bits stack h k count w = record {
-  labels = length-set s.labels j (record { bits = bits }) ∙ w.labels;
-  queued = length-set s.queued j true ∙ w.queued;
-  inside = (let small : j < count = let e = w.labels in omega arith in λ n d. k.inside count small w.inside n d);
-  stacked = λ i. stacked_at s.queued stack j i (k.here w.stacked) (λ q. k.kept i (w.stacked i q)) (cases_eq i j);
-}
+whole_joined : (s : State) (j bits : ℕ) (queued : List Bool) (stack : List ℕ) (room : ℕ) → j < length s.labels →
+    Queues s j queued stack room → (count : ℕ) → IsWhole count s → IsWhole count (joined_state s j bits queued stack room)
+whole_joined s j bits queued stack room h q count w =
+    let small : j < count = let e = w.labels in omega arith in
+    let v : IsWhole count (record { labels = s.labels; queued = queued; stack = stack; room = room }) = q.whole count small w in
+    record {
+      labels = length-set s.labels j (record { bits = bits }) ∙ w.labels;
+      queued = v.queued;
+      room = v.room;
+      inside = v.inside;
+      once = v.once;
+      stacked = v.stacked;
+    }
 
-told_joined : (s : State) (j bits i : ℕ) (stack : List ℕ) → j < length s.queued → is_queued (joined_state s j bits stack) i ≡ false →
-    (is_queued s i ≡ false) × (label_at (joined_state s j bits stack) i ≡ label_at s i)
-told_joined s j bits i stack h f =
-    let n : i ≡ j → ⊥ = queued_cases s.queued j i h f in
-    (sym (get_or-set_other s.queued j i true false n) ∙ f, set_at_other s.labels j i (record { bits = bits }) n)
+told_joined : (s : State) (j bits i : ℕ) (queued : List Bool) (stack : List ℕ) (room : ℕ) → Queues s j queued stack room →
+    get_or queued i false ≡ false →
+    (is_queued s i ≡ false) × (label_at (joined_state s j bits queued stack room) i ≡ label_at s i)
+told_joined s j bits i queued stack room q f =
+    let t : (is_queued s i ≡ false) × (i ≡ j → ⊥) = q.told i f in
+    (t.0, set_at_other s.labels j i (record { bits = bits }) t.1)
 
-pub rises_joined : (s : State) (j before out : ℕ) (stack : List ℕ) → Reads s j before out → Stacks s j stack →
-    Rises s (joined_state s j (bit_or before out) stack)
-rises_joined s j before out stack r k = record {
+rises_joined : (s : State) (j before out : ℕ) (queued : List Bool) (stack : List ℕ) (room : ℕ) → Reads s j before out →
+    Queues s j queued stack room → Rises s (joined_state s j (bit_or before out) queued stack room)
+rises_joined s j before out queued stack room r q = record {
   labels = length-set s.labels j (record { bits = bit_or before out });
-  whole = whole_joined s j (bit_or before out) stack r.inside k;
+  whole = whole_joined s j (bit_or before out) queued stack room r.inside q;
   higher = λ i. higher_at s.labels j i before out r.inside (was_label s j before out r) (cases_eq i j);
-  told = λ i. told_joined s j (bit_or before out) i stack (let e = r.flags in let h = r.inside in omega arith);
+  told = λ i. told_joined s j (bit_or before out) i queued stack room q;
   work = (let fall : sum_by room_above (with_bits s.labels j (bit_or before out)) + 1 ≤ sum_by room_above s.labels =
-      work_falls s.labels j before (bit_or before out) r.inside r.was r.small (grown before out r.differs) in
-      let short : length stack ≤ length s.stack + 1 = k.short in
+      work_falls s.labels j before (bit_or before out) r.inside r.was (names_rise before out r.names r.differs) in
+      let short : length stack ≤ length s.stack + 1 = q.short in
       omega arith);
 }
 
@@ -159,45 +133,103 @@ pub stays_joined : (s : State) (j before out : ℕ) → Reads s j before out →
 stays_joined s j before out r any small below i =
     below_at s.labels j i before out any r.inside (was_label s j before out r) small below (cases_eq i j)
 
--- the stack as it was, where the item is queued already; and with the item pushed
-stacks_kept : (s : State) (j : ℕ) → is_queued s j ≡ true → Stacks s j s.stack
-stacks_kept s j q = record {
-  inside = λ count h all. all;
-  kept = λ i c. c;
-  here = λ stacked. stacked j q;
+-- the flags and the stack as they were, where the item is queued already
+queues_kept : (s : State) (j : ℕ) → is_queued s j ≡ true → Queues s j s.queued s.stack s.room
+queues_kept s j q = record {
+  whole = λ count h w. w;
+  told = λ i f. (f, λ e. true≢false (sym q ∙ (ap (λ (n : ℕ). is_queued s n) (sym e) ∙ f)));
   short = omega arith;
 }
 
-stacks_pushed : (s : State) (j : ℕ) → Stacks s j (s.stack ++ j ∷ [])
-stacks_pushed s j = record {
-  inside = λ count h all. All-push (λ k. k < count) s.stack j all h;
-  kept = λ i c. Contains-append_left s.stack (j ∷ []) i c;
-  here = λ stacked. Contains-push s.stack j;
+-- and with the item pushed
+abbrev one_if : Bool → ℕ
+one_if b = cond b 1 0
+
+once_pushed : (queued : List Bool) (stack : List ℕ) (j i : ℕ) → j < length queued → get_or queued j false ≡ false →
+    count_by (λ k. eqb k i) stack ≡ one_if (get_or queued i false) → (i ≡ j) ⊎ (i ≡ j → ⊥) →
+    count_by (λ k. eqb k i) (stack ++ j ∷ []) ≡ one_if (get_or (set queued j true) i false)
+once_pushed queued stack j i h f was (inl e) =
+    let more : count_by (λ k. eqb k i) (stack ++ j ∷ []) ≡ count_by (λ k. eqb k i) stack + one_if (eqb j i) =
+    sum_by_push (λ (k : ℕ). one_if (eqb k i)) stack j in
+    let none : one_if (get_or queued i false) ≡ 0 = ap one_if (ap (λ (n : ℕ). get_or queued n false) e ∙ f) in
+    let here : one_if (eqb j i) ≡ 1 = ap one_if (eq-eqb j i (sym e)) in
+    let now : one_if (get_or (set queued j true) i false) ≡ 1 =
+    ap one_if (ap (λ (n : ℕ). get_or (set queued j true) n false) e ∙ get_or-set_same queued j true false h) in
+    omega arith
+once_pushed queued stack j i h f was (inr n) =
+    let more : count_by (λ k. eqb k i) (stack ++ j ∷ []) ≡ count_by (λ k. eqb k i) stack + one_if (eqb j i) =
+    sum_by_push (λ (k : ℕ). one_if (eqb k i)) stack j in
+    let other : one_if (eqb j i) ≡ 0 = ap one_if (ne_eqb j i (λ e. n (sym e))) in
+    let now : one_if (get_or (set queued j true) i false) ≡ one_if (get_or queued i false) =
+    ap one_if (get_or-set_other queued j i true false n) in
+    omega arith
+
+flag_set : (queued : List Bool) (j : ℕ) → j < length queued → get_or queued j false ≡ false →
+    count_by (λ b. b) (set queued j true) ≡ count_by (λ b. b) queued + 1
+flag_set queued j h f =
+    let e : count_by (λ b. b) (set queued j true) + one_if (get_or queued j false) ≡ count_by (λ b. b) queued + 1 =
+    sum_by-set one_if queued j true false h in
+    let none : one_if (get_or queued j false) ≡ 0 = ap one_if f in
+    omega arith
+
+whole_pushed : (s : State) (j count : ℕ) → is_queued s j ≡ false → j < count → IsWhole count s →
+    IsWhole count (record { labels = s.labels; queued = set s.queued j true; stack = s.stack ++ j ∷ []; room = s.room })
+whole_pushed s j count f small w =
+    let within : j < length s.queued = let e = w.queued in omega arith in
+    record {
+      labels = w.labels;
+      queued = length-set s.queued j true ∙ w.queued;
+      room = w.room;
+      inside = All-push (λ k. k < count) s.stack j w.inside small;
+      once = λ i. once_pushed s.queued s.stack j i within f (w.once i) (cases_eq i j);
+      stacked = (let long : length (s.stack ++ j ∷ []) ≡ length s.stack + 1 = length_push s.stack j in
+          let more : count_by (λ b. b) (set s.queued j true) ≡ count_by (λ b. b) s.queued + 1 = flag_set s.queued j within f in
+          let was : length s.stack ≡ count_by (λ b. b) s.queued = w.stacked in
+          omega arith);
+    }
+
+queues_pushed : (s : State) (j : ℕ) → j < length s.queued → is_queued s j ≡ false →
+    Queues s j (set s.queued j true) (s.stack ++ j ∷ []) s.room
+queues_pushed s j h f = record {
+  whole = λ count small w. whole_pushed s j count f small w;
+  told = λ i g.
+      let n : i ≡ j → ⊥ = queued_cases s.queued j i h g in
+      (sym (get_or-set_other s.queued j i true false n) ∙ g, n);
   short = (let e : length (s.stack ++ j ∷ []) ≡ length s.stack + 1 = length_push s.stack j in omega arith);
 }
 
-pub rises_queued : (s : State) (j before out : ℕ) → Reads s j before out → is_queued s j ≡ true →
-    Rises s (record { labels = with_bits s.labels j (bit_or before out); queued = s.queued; stack = s.stack })
-rises_queued s j before out r q =
-    let same : set s.queued j true ≡ s.queued =
-    ap (λ (b : Bool). set s.queued j b) (sym q) ∙ set-get_or s.queued j false in
-    subst (λ (flags : List Bool). Rises s (record { labels = with_bits s.labels j (bit_or before out); queued = flags; stack = s.stack }))
-    same (rises_joined s j before out s.stack r (stacks_kept s j q))
+-- an item that is not queued finds room on the stack
+pub room_left : (count : ℕ) (s : State) (j : ℕ) → IsWhole count s → j < count → is_queued s j ≡ false → length s.stack < s.room
+room_left count s j w small f =
+    let within : j < length s.queued = let e = w.queued in omega arith in
+    let more : count_by (λ b. b) (set s.queued j true) ≡ count_by (λ b. b) s.queued + 1 = flag_set s.queued j within f in
+    let most : count_by (λ b. b) (set s.queued j true) ≤ length (set s.queued j true) = count_by-le-length (λ b. b) (set s.queued j true) in
+    let same : length (set s.queued j true) ≡ length s.queued = length-set s.queued j true in
+    let stacked : length s.stack ≡ count_by (λ b. b) s.queued = w.stacked in
+    let room : count ≤ s.room = w.room in
+    let flags : length s.queued ≡ count = w.queued in
+    omega arith
 
-pub rises_pushed : (s : State) (j before out : ℕ) (stack : List ℕ) → Reads s j before out → stack ≡ s.stack ++ j ∷ [] →
-    Rises s (joined_state s j (bit_or before out) stack)
-rises_pushed s j before out stack r e =
-    subst (λ (xs : List ℕ). Rises s (joined_state s j (bit_or before out) xs)) (sym e)
-    (rises_joined s j before out (s.stack ++ j ∷ []) r (stacks_pushed s j))
+pub rises_queued : (s : State) (j before out : ℕ) → Reads s j before out → is_queued s j ≡ true →
+    Rises s (joined_state s j (bit_or before out) s.queued s.stack s.room)
+rises_queued s j before out r q = rises_joined s j before out s.queued s.stack s.room r (queues_kept s j q)
+
+pub rises_pushed : (s : State) (j before out : ℕ) (stack : List ℕ) (room : ℕ) → Reads s j before out → is_queued s j ≡ false →
+    stack ≡ s.stack ++ j ∷ [] → room ≡ s.room → Rises s (joined_state s j (bit_or before out) (set s.queued j true) stack room)
+rises_pushed s j before out stack room r f e same =
+    let within : j < length s.queued = let n = r.flags in let h = r.inside in omega arith in
+    subst (λ (n : ℕ). Rises s (joined_state s j (bit_or before out) (set s.queued j true) stack n)) (sym same)
+    (subst (λ (xs : List ℕ). Rises s (joined_state s j (bit_or before out) (set s.queued j true) xs s.room)) (sym e)
+    (rises_joined s j before out (set s.queued j true) (s.stack ++ j ∷ []) s.room r (queues_pushed s j within f)))
 
 -- from what the code read
 pub reads_from : (s : State) (j out : ℕ) (x : LabelBits) → j < length s.labels → length s.queued ≡ length s.labels →
-    x ≡ get_or s.labels j x → x.bits < 2 ^ 32 → (bit_or x.bits out ≡ x.bits → ⊥) → Reads s j x.bits out
-reads_from s j out x inside flags e small differs = record {
+    x ≡ get_or s.labels j x → IsAtMost (label_of out) all_private → (bit_or x.bits out ≡ x.bits → ⊥) → Reads s j x.bits out
+reads_from s j out x inside flags e names differs = record {
   inside = inside;
   flags = flags;
   was = ap (λ (y : LabelBits). y.bits) (get_or_read s.labels j x inside e public_bits);
-  small = small;
+  names = names;
   differs = differs;
 }
 
@@ -211,5 +243,9 @@ takes_same s j out x inside e same =
 pub at_named : (to : Option ℕ) (j : ℕ) (P : ℕ → Type 0) → to ≡ Some j → P j → (k : ℕ) → to ≡ Some k → P k
 at_named to j P e p k f = subst P (same_Some j k (sym e ∙ f)) p
 
-pub queued_read : (queued : List Bool) (j : ℕ) (b : Bool) → j < length queued → b ≡ get_or queued j b → b ≡ true → get_or queued j false ≡ true
-queued_read queued j b h e t = sym (get_or_read queued j b h e false) ∙ t
+pub queued_read : (queued : List Bool) (j : ℕ) (b t : Bool) → j < length queued → b ≡ get_or queued j b → b ≡ t → get_or queued j false ≡ t
+queued_read queued j b t h e is = sym (get_or_read queued j b h e false) ∙ is
+
+-- a state is whole at the count of its own labels
+pub whole_own : (count : ℕ) (s : State) → IsWhole count s → IsWhole (length s.labels) s
+whole_own count s w = subst (λ (n : ℕ). IsWhole n s) (sym w.labels) w

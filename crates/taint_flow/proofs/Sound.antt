@@ -1,12 +1,14 @@
 -- The search for the least labelling: how it starts, what one item hands on, and what is kept.
-use Rattle.std.proofs.Common.{subst, ◌≡◌, ℕ, suc, ◌+◌, ◌-◌, ◌<◌, ◌≤◌, Bool, true, false, cond, eqb, List, [], ◌∷◌, ◌++◌, length, set, get_or, replicate, refl, sym, ◌∙◌, ap, arith, Option, Some, None, inl, inr, ◌⊎◌}
-use Rattle.std.specs.Prelude.{All, Contains, unwrap_or}
+use Rattle.std.proofs.Common.{subst, ◌≡◌, ℕ, suc, ◌+◌, ◌-◌, ◌*◌, ◌<◌, ◌≤◌, Bool, true, false, cond, eqb, List, [], ◌∷◌, ◌++◌, length, set, get_or, replicate, refl, sym, ◌∙◌, ap, arith, Option, Some, None, inl, inr, ◌⊎◌}
+use Rattle.std.specs.Prelude.{All, unwrap_or}
 use Rattle.std.specs.Option.{option_map}
-use Rattle.std.specs.List.{slice_get}
+use Rattle.std.specs.List.{slice_get, sum_by, count_by}
 use Rattle.std.proofs.lemmas.Option.{same_Some, none-some, slice_get_within, cond_some}
-use Rattle.std.proofs.lemmas.Bool.{cases_eq, cases_lt, true≢false, cond-true, false_from_ne_true}
+use Rattle.std.proofs.lemmas.Bool.{cases_eq, cases_lt, eq-eqb, ne_eqb, true≢false, cond-true, false_from_ne_true}
 use Rattle.std.proofs.lemmas.List.{get_or-set_same, get_or-set_other, get_or-replicate, get_or_past, length-replicate, length-set, length_push, get_or_push, get_or_append_left}
-use Rattle.std.proofs.lemmas.List.Elements.{All-push, Contains-push, Contains-append_left, Contains-push_cases}
+use Rattle.std.proofs.lemmas.List.Elements.{All-push}
+use Rattle.std.proofs.lemmas.List.Sums.{sum_by-set, sum_by_push}
+use Rattle.std.proofs.lemmas.List.Folds.{sum_by-replicate}
 use Rattle.cv_word.specs.MemoryMap.{code_base}
 use Rattle.code_sweep.specs.declared.item.Item.{Item}
 use Rattle.code_sweep.specs.declared.item.Item.TheVariants.{Call, Ret}
@@ -16,9 +18,10 @@ use Rattle.taint_flow.specs.Flow.{Labelling, MeetsFlow, Leads, left_behind, fall
 use Rattle.taint_flow.specs.Bits.{label_of, labelling_of, public_bits}
 use Rattle.taint_flow.specs.declared.label.Label.{Label as LabelBits}
 use Rattle.taint_flow.specs.Places.{NextStands, NumbersItems, goes_on}
-use Rattle.taint_flow.specs.Worklist.{State, label_at, is_queued, IsWhole, IsBelow, Rises, TakesIn, StaysBelow, work_left, HandsOn, HasWords, StaysLeast, IsFresh, IsSound, behind_word, word_label}
+use Rattle.taint_flow.specs.Worklist.{State, label_at, is_queued, IsWhole, IsBelow, Rises, TakesIn, StaysBelow, all_private, private_names, room_above, work_left, HandsOn, HasWords, StaysLeast, IsFresh, IsSound, behind_word, word_label}
 use Rattle.std.proofs.lemmas.Nat.Bits.{bit_at-zero}
 use Rattle.taint_flow.proofs.Joins.{read_label}
+use Rattle.taint_flow.proofs.Names.{left_behind_within, all_meets, no_names}
 use Rattle.taint_flow.proofs.Monotone.{left_behind_up}
 
 along : (l m n : Label) → l ≡ m → IsAtMost m n → IsAtMost l n
@@ -114,8 +117,8 @@ handed_least items i p out s m t next target number h a b any meets below =
     below)
 
 -- the top of the stack taken off, and its flag cleared
-abbrev pub popped : State → ℕ → List ℕ → State
-popped s i rest = record { labels = s.labels; queued = set s.queued i false; stack = rest }
+abbrev pub popped : State → ℕ → List ℕ → ℕ → State
+popped s i rest room = record { labels = s.labels; queued = set s.queued i false; stack = rest; room = room }
 
 pub top_inside : (count : ℕ) (s : State) (i : ℕ) (rest : List ℕ) → IsWhole count s → s.stack ≡ rest ++ i ∷ [] → i < count
 top_inside count s i rest w e =
@@ -133,53 +136,105 @@ rest_inside count s i rest w e k d h =
     let small : get_or s.stack k d < count = w.inside k d (omega arith) in
     omega arith
 
-cleared : (queued : List Bool) (i k : ℕ) → get_or (set queued i false) k false ≡ true → (k ≡ i) ⊎ (k ≡ i → ⊥) → i < length queued → (get_or queued k false ≡ true) × (k ≡ i → ⊥)
-cleared queued i k h (inl e) small =
-    absurd (true≢false (sym h ∙ (ap (λ (n : ℕ). get_or (set queued i false) n false) e ∙ get_or-set_same queued i false false small)))
-cleared queued i k h (inr n) small = (sym (get_or-set_other queued i k false false n) ∙ h, n)
+-- one, where a flag is set
+abbrev one_if : Bool → ℕ
+one_if b = cond b 1 0
 
-left_in : (rest : List ℕ) (i k : ℕ) → (k ≡ i → ⊥) → Contains rest k ⊎ (i ≡ k) → Contains rest k
-left_in rest i k n (inl c) = c
-left_in rest i k n (inr e) = absurd (n (sym e))
+one_most : (b : Bool) → one_if b ≤ 1
+one_most true = omega arith
+one_most false = omega arith
 
-pub whole_popped : (count : ℕ) (s : State) (i : ℕ) (rest : List ℕ) → IsWhole count s → s.stack ≡ rest ++ i ∷ [] → IsWhole count (popped s i rest)
-whole_popped count s i rest w e = record {
-  labels = w.labels;
-  queued = length-set s.queued i false ∙ w.queued;
-  inside = rest_inside count s i rest w e;
-  stacked = λ k q.
-      let small : i < length s.queued = let top = top_inside count s i rest w e in let len = w.queued in omega arith in
-      let was = cleared s.queued i k q (cases_eq k i) small in
-      left_in rest i k was.1
-      (Contains-push_cases rest i k (subst (λ (xs : List ℕ). Contains xs k) e (w.stacked k was.0)));
-}
+-- how often a number stands on the stack before the top is taken off
+pushed_once : (s : State) (i k : ℕ) (rest : List ℕ) → s.stack ≡ rest ++ i ∷ [] →
+    count_by (λ n. eqb n k) s.stack ≡ count_by (λ n. eqb n k) rest + one_if (eqb i k)
+pushed_once s i k rest e =
+    ap (λ (xs : List ℕ). count_by (λ n. eqb n k) xs) e ∙ sum_by_push (λ (n : ℕ). one_if (eqb n k)) rest i
+
+-- the top is queued, and stands nowhere below
+top_once : (count : ℕ) (s : State) (i : ℕ) (rest : List ℕ) → IsWhole count s → s.stack ≡ rest ++ i ∷ [] →
+    (count_by (λ n. eqb n i) rest ≡ 0) × (one_if (is_queued s i) ≡ 1)
+top_once count s i rest w e =
+    let more : count_by (λ n. eqb n i) s.stack ≡ count_by (λ n. eqb n i) rest + one_if (eqb i i) = pushed_once s i i rest e in
+    let here : one_if (eqb i i) ≡ 1 = ap one_if (eq-eqb i i refl) in
+    let once : count_by (λ n. eqb n i) s.stack ≡ one_if (is_queued s i) = w.once i in
+    let most : one_if (is_queued s i) ≤ 1 = one_most (is_queued s i) in
+    (omega arith, omega arith)
+
+once_popped : (count : ℕ) (s : State) (i k : ℕ) (rest : List ℕ) → IsWhole count s → s.stack ≡ rest ++ i ∷ [] → i < length s.queued →
+    (k ≡ i) ⊎ (k ≡ i → ⊥) → count_by (λ n. eqb n k) rest ≡ one_if (get_or (set s.queued i false) k false)
+once_popped count s i k rest w e small (inl same) =
+    let none : count_by (λ n. eqb n k) rest ≡ 0 = ap (λ (m : ℕ). count_by (λ n. eqb n m) rest) same ∙ (top_once count s i rest w e).0 in
+    let now : one_if (get_or (set s.queued i false) k false) ≡ 0 =
+    ap one_if (ap (λ (n : ℕ). get_or (set s.queued i false) n false) same ∙ get_or-set_same s.queued i false false small) in
+    none ∙ sym now
+once_popped count s i k rest w e small (inr n) =
+    let more : count_by (λ m. eqb m k) s.stack ≡ count_by (λ m. eqb m k) rest + one_if (eqb i k) = pushed_once s i k rest e in
+    let other : one_if (eqb i k) ≡ 0 = ap one_if (ne_eqb i k (λ same. n (sym same))) in
+    let once : count_by (λ m. eqb m k) s.stack ≡ one_if (is_queued s k) = w.once k in
+    let now : one_if (get_or (set s.queued i false) k false) ≡ one_if (is_queued s k) =
+    ap one_if (get_or-set_other s.queued i k false false n) in
+    omega arith
+
+stacked_popped : (count : ℕ) (s : State) (i : ℕ) (rest : List ℕ) → IsWhole count s → s.stack ≡ rest ++ i ∷ [] → i < length s.queued →
+    length rest ≡ count_by (λ b. b) (set s.queued i false)
+stacked_popped count s i rest w e small =
+    let long : length s.stack ≡ length rest + 1 = ap length e ∙ length_push rest i in
+    let was : length s.stack ≡ count_by (λ b. b) s.queued = w.stacked in
+    let set : count_by (λ b. b) (set s.queued i false) + one_if (get_or s.queued i false) ≡ count_by (λ b. b) s.queued + 0 =
+    sum_by-set one_if s.queued i false false small in
+    let top : one_if (is_queued s i) ≡ 1 = (top_once count s i rest w e).1 in
+    omega arith
+
+pub whole_popped : (count : ℕ) (s : State) (i : ℕ) (rest : List ℕ) (room : ℕ) → IsWhole count s → s.stack ≡ rest ++ i ∷ [] → room ≡ s.room →
+    IsWhole count (popped s i rest room)
+whole_popped count s i rest room w e same =
+    let small : i < length s.queued = let top = top_inside count s i rest w e in let len = w.queued in omega arith in
+    record {
+      labels = w.labels;
+      queued = length-set s.queued i false ∙ w.queued;
+      room = (let had : count ≤ s.room = w.room in omega arith);
+      inside = rest_inside count s i rest w e;
+      once = λ k. once_popped count s i k rest w e small (cases_eq k i);
+      stacked = stacked_popped count s i rest w e small;
+    }
 
 kept_flag : (queued : List Bool) (i k : ℕ) → (k ≡ i → ⊥) → get_or (set queued i false) k false ≡ false → get_or queued k false ≡ false
 kept_flag queued i k n h = sym (get_or-set_other queued i k false false n) ∙ h
 
-done_at : (items : List Placed) (s t : State) (i k : ℕ) (rest : List ℕ) → IsSound items s → Rises (popped s i rest) t →
-    HandsOn items i (popped s i rest) t → is_queued t k ≡ false → (k ≡ i) ⊎ (k ≡ i → ⊥) → HandsOn items k t t
-done_at items s t i k rest sound r h q (inl e) j p here lead =
+done_at : (items : List Placed) (s t : State) (i k : ℕ) (rest : List ℕ) (room : ℕ) → IsSound items s → Rises (popped s i rest room) t →
+    HandsOn items i (popped s i rest room) t → is_queued t k ≡ false → (k ≡ i) ⊎ (k ≡ i → ⊥) → HandsOn items k t t
+done_at items s t i k rest room sound r h q (inl e) j p here lead =
     along _ _ _ (ap (λ (l : Label). left_behind p.item l) ((r.told k q).1 ∙ ap (λ (n : ℕ). label_at s n) e))
     (h j p (ap (λ (n : ℕ). slice_get items n) (sym e) ∙ here) (subst (λ (n : ℕ). Leads items n j) e lead))
-done_at items s t i k rest sound r h q (inr n) j p here lead =
+done_at items s t i k rest room sound r h q (inr n) j p here lead =
     along _ _ _ (ap (λ (l : Label). left_behind p.item l) (r.told k q).1)
     (λ name one. r.higher j name (sound.done k (kept_flag s.queued i k n (r.told k q).0) j p here lead name one))
 
-pub sound_after : (items : List Placed) (s t : State) (i : ℕ) (rest : List ℕ) → IsSound items s → s.stack ≡ rest ++ i ∷ [] →
-    Rises (popped s i rest) t → HandsOn items i (popped s i rest) t → StaysLeast items (popped s i rest) t → IsSound items t
-sound_after items s t i rest sound e r h least = record {
-  whole = r.whole (length items) (whole_popped (length items) s i rest sound.whole e);
+pub sound_after : (items : List Placed) (s t : State) (i : ℕ) (rest : List ℕ) (room : ℕ) → IsSound items s → s.stack ≡ rest ++ i ∷ [] →
+    room ≡ s.room → Rises (popped s i rest room) t → HandsOn items i (popped s i rest room) t →
+    StaysLeast items (popped s i rest room) t → IsSound items t
+sound_after items s t i rest room sound e same r h least = record {
+  whole = r.whole (length items) (whole_popped (length items) s i rest room sound.whole e same);
   words = λ k p l small here is name one. r.higher (suc k) name (sound.words k p l small here is name one);
-  done = λ k q. done_at items s t i k rest sound r h q (cases_eq k i);
+  done = λ k q. done_at items s t i k rest room sound r h q (cases_eq k i);
   below = λ any meets. least any meets (sound.below any meets);
 }
 
-pub work_after : (s t : State) (i : ℕ) (rest : List ℕ) → s.stack ≡ rest ++ i ∷ [] → Rises (popped s i rest) t → work_left t < work_left s
-work_after s t i rest e r =
+pub work_after : (s t : State) (i : ℕ) (rest : List ℕ) (room : ℕ) → s.stack ≡ rest ++ i ∷ [] → Rises (popped s i rest room) t →
+    work_left t < work_left s
+work_after s t i rest room e r =
     let long : length s.stack ≡ length rest + 1 = ap length e ∙ length_push rest i in
-    let work : work_left t ≤ work_left (popped s i rest) = r.work in
+    let work : work_left t ≤ work_left (popped s i rest room) = r.work in
     omega arith
+
+-- no label has a name above the flags, nor what an item leaves
+pub sound_within : (items : List Placed) (s : State) (i : ℕ) → IsSound items s → IsAtMost (label_at s i) all_private
+sound_within items s i sound = sound.below (λ (n : ℕ). all_private) (all_meets items) i
+
+pub out_within : (item : Item) (out : ℕ) (x : LabelBits) (s : State) (i : ℕ) → i < length s.labels → x ≡ get_or s.labels i x →
+    label_of out ≡ left_behind item (label_of x.bits) → IsAtMost (label_at s i) all_private → IsAtMost (label_of out) all_private
+out_within item out x s i small e leaves h =
+    along _ _ _ leaves (left_behind_within item (label_of x.bits) (along _ _ _ (read_label s.labels i x small e) h))
 
 -- the start
 labels_public : (n i k : ℕ) → (i < n) ⊎ (n ≤ i) → labelling_of (replicate n public_bits) i k ≡ false
@@ -190,53 +245,95 @@ labels_public n i k (inr h) =
     (get_or_past (replicate n public_bits) i public_bits (let e : length (replicate n public_bits) ≡ n = length-replicate n public_bits in omega arith))
     ∙ ap (λ (b : ℕ). eqb b 1) (bit_at-zero k)
 
--- the stack has the highest numbers, so many of them
+-- the stack has the highest numbers, so many of them, each once
 pub record Highest (count i : ℕ) (stack : List ℕ) : Type 0 where
   pub inside : All (λ k. k < count) stack
-  pub stacked : (k : ℕ) → count ≤ k + i → k < count → Contains stack k
+  pub there : (k : ℕ) → count ≤ k + i → k < count → count_by (λ n. eqb n k) stack ≡ 1
+  pub absent : (k : ℕ) → k + i < count → count_by (λ n. eqb n k) stack ≡ 0
+  pub outside : (k : ℕ) → count ≤ k → count_by (λ n. eqb n k) stack ≡ 0
+  pub long : length stack ≡ i
 
-stacked_more : (count i k : ℕ) (stack : List ℕ) → i < count → Highest count i stack → count ≤ k + (i + 1) → k < count →
-    (k ≡ count - 1 - i) ⊎ (k ≡ count - 1 - i → ⊥) → Contains (stack ++ (count - 1 - i) ∷ []) k
-stacked_more count i k stack h s a b (inl e) = subst (λ (n : ℕ). Contains (stack ++ (count - 1 - i) ∷ []) n) (sym e) (Contains-push stack (count - 1 - i))
-stacked_more count i k stack h s a b (inr n) = Contains-append_left stack ((count - 1 - i) ∷ []) k (s.stacked k (omega arith) b)
+-- how often a number stands there when another one is pushed
+count_other : (stack : List ℕ) (j k : ℕ) → (k ≡ j → ⊥) → count_by (λ n. eqb n k) (stack ++ j ∷ []) ≡ count_by (λ n. eqb n k) stack
+count_other stack j k n =
+    let more : count_by (λ m. eqb m k) (stack ++ j ∷ []) ≡ count_by (λ m. eqb m k) stack + one_if (eqb j k) =
+    sum_by_push (λ (m : ℕ). one_if (eqb m k)) stack j in
+    let other : one_if (eqb j k) ≡ 0 = ap one_if (ne_eqb j k (λ same. n (sym same))) in
+    omega arith
+
+count_same : (stack : List ℕ) (j k : ℕ) → k ≡ j → count_by (λ n. eqb n k) (stack ++ j ∷ []) ≡ count_by (λ n. eqb n k) stack + 1
+count_same stack j k e =
+    let more : count_by (λ m. eqb m k) (stack ++ j ∷ []) ≡ count_by (λ m. eqb m k) stack + one_if (eqb j k) =
+    sum_by_push (λ (m : ℕ). one_if (eqb m k)) stack j in
+    let here : one_if (eqb j k) ≡ 1 = ap one_if (eq-eqb j k (sym e)) in
+    omega arith
+
+there_more : (count i k : ℕ) (stack : List ℕ) → i < count → Highest count i stack → count ≤ k + (i + 1) → k < count →
+    (k ≡ count - 1 - i) ⊎ (k ≡ count - 1 - i → ⊥) → count_by (λ n. eqb n k) (stack ++ (count - 1 - i) ∷ []) ≡ 1
+there_more count i k stack h s a b (inl e) =
+    let more : count_by (λ n. eqb n k) (stack ++ (count - 1 - i) ∷ []) ≡ count_by (λ n. eqb n k) stack + 1 = count_same stack (count - 1 - i) k e in
+    let none : count_by (λ n. eqb n k) stack ≡ 0 = s.absent k (omega arith) in
+    omega arith
+there_more count i k stack h s a b (inr n) = count_other stack (count - 1 - i) k n ∙ s.there k (omega arith) b
 
 pub highest_more : (count i : ℕ) (stack : List ℕ) → i < count → Highest count i stack → Highest count (i + 1) (stack ++ (count - 1 - i) ∷ [])
 highest_more count i stack h s = record {
   inside = All-push (λ k. k < count) stack (count - 1 - i) s.inside (omega arith);
-  stacked = λ k a b. stacked_more count i k stack h s a b (cases_eq k (count - 1 - i));
+  there = λ k a b. there_more count i k stack h s a b (cases_eq k (count - 1 - i));
+  absent = λ k a. count_other stack (count - 1 - i) k (λ e. absurd (omega arith)) ∙ s.absent k (omega arith);
+  outside = λ k a. count_other stack (count - 1 - i) k (λ e. absurd (omega arith)) ∙ s.outside k a;
+  long = (let more : length (stack ++ (count - 1 - i) ∷ []) ≡ length stack + 1 = length_push stack (count - 1 - i) in
+      let was : length stack ≡ i = s.long in
+      omega arith);
 }
 
 pub highest_none : (count : ℕ) → Highest count 0 []
 highest_none count = record {
   inside = λ k d h. absurd (omega arith);
-  stacked = λ k a b. absurd (omega arith);
+  there = λ k a b. absurd (omega arith);
+  absent = λ k a. refl;
+  outside = λ k a. refl;
+  long = refl;
 }
 
-flag_small : (count i : ℕ) → get_or (replicate count true) i false ≡ true → (i < count) ⊎ (count ≤ i) → i < count
-flag_small count i q (inl h) = h
-flag_small count i q (inr h) =
-    absurd (true≢false (sym q ∙ get_or_past (replicate count true) i false (let e : length (replicate count true) ≡ count = length-replicate count true in omega arith)))
+fresh_once : (count k : ℕ) (stack : List ℕ) → Highest count count stack → (k < count) ⊎ (count ≤ k) →
+    count_by (λ n. eqb n k) stack ≡ one_if (get_or (replicate count true) k false)
+fresh_once count k stack h (inl small) =
+    h.there k (omega arith) small ∙ sym (ap one_if (get_or-replicate count k true false small))
+fresh_once count k stack h (inr past) =
+    h.outside k past ∙
+    sym (ap one_if (get_or_past (replicate count true) k false (let e : length (replicate count true) ≡ count = length-replicate count true in omega arith)))
 
-fresh_at : (count i : ℕ) (stack : List ℕ) → i ≡ count → Highest count i stack →
-    IsFresh count (record { labels = replicate count public_bits; queued = replicate count true; stack = stack })
-fresh_at count i stack e h = record {
+fresh_at : (count room : ℕ) (stack : List ℕ) → Highest count count stack → count ≤ room →
+    IsFresh count (record { labels = replicate count public_bits; queued = replicate count true; stack = stack; room = room })
+fresh_at count room stack h had = record {
   whole = record {
     labels = length-replicate count public_bits;
     queued = length-replicate count true;
+    room = had;
     inside = h.inside;
-    stacked = λ k q. let small : k < count = flag_small count k q (cases_lt k count) in h.stacked k (omega arith) small;
+    once = λ k. fresh_once count k stack h (cases_lt k count);
+    stacked = (let all : count_by (λ b. b) (replicate count true) ≡ count * 1 = sum_by-replicate one_if count true in
+        let long : length stack ≡ count = h.long in
+        omega arith);
   };
   public = λ n k. labels_public count n k (cases_lt n count);
   all_queued = λ n small. get_or-replicate count n true false small;
+  work = (let all : sum_by room_above (replicate count public_bits) ≡ count * room_above public_bits = sum_by-replicate room_above count public_bits in
+      let each : private_names 17 (label_of 0) ≡ 0 = no_names in
+      let room : room_above public_bits ≡ 17 = omega arith in
+      let whole : sum_by room_above (replicate count public_bits) ≡ count * 17 = all ∙ ap (λ (n : ℕ). count * n) room in
+      let long : length stack ≡ count = h.long in
+      omega arith);
 }
 
-pub fresh_from : (count i : ℕ) (labels : List LabelBits) (queued : List Bool) (stack : List ℕ) → i ≡ count →
+pub fresh_from : (count i room : ℕ) (labels : List LabelBits) (queued : List Bool) (stack : List ℕ) → i ≡ count → count ≤ room →
     labels ≡ replicate count public_bits → queued ≡ replicate count true → Highest count i stack →
-    IsFresh count (record { labels = labels; queued = queued; stack = stack })
-fresh_from count i labels queued stack e a b h =
-    subst (λ (ls : List LabelBits). IsFresh count (record { labels = ls; queued = queued; stack = stack })) (sym a)
-    (subst (λ (qs : List Bool). IsFresh count (record { labels = replicate count public_bits; queued = qs; stack = stack })) (sym b)
-    (fresh_at count i stack e h))
+    IsFresh count (record { labels = labels; queued = queued; stack = stack; room = room })
+fresh_from count i room labels queued stack e had a b h =
+    subst (λ (ls : List LabelBits). IsFresh count (record { labels = ls; queued = queued; stack = stack; room = room })) (sym a)
+    (subst (λ (qs : List Bool). IsFresh count (record { labels = replicate count public_bits; queued = qs; stack = stack; room = room })) (sym b)
+    (fresh_at count room stack (subst (λ (n : ℕ). Highest count n stack) e h) had))
 
 -- what the code made of one item
 pub hands_from : (items : List Placed) (i : ℕ) (p : Placed) (x : LabelBits) (out : ℕ) (s : State) (next target : Option ℕ) (number : ℕ → Option ℕ) →
@@ -327,8 +424,9 @@ sound_from_fresh items s t fresh r words least = record {
 unqueued : (items : List Placed) (s : State) → IsSound items s → s.stack ≡ [] → (i : ℕ) → is_queued s i ≡ false
 unqueued items s sound e i =
     false_from_ne_true (is_queued s i) (λ q.
-    let c : Contains [] i = subst (λ (xs : List ℕ). Contains xs i) e (sound.whole.stacked i q) in
-    let past : c.0 < 0 = c.1 in
+    let once : count_by (λ n. eqb n i) s.stack ≡ one_if (is_queued s i) = sound.whole.once i in
+    let none : count_by (λ n. eqb n i) s.stack ≡ 0 = ap (λ (xs : List ℕ). count_by (λ n. eqb n i) xs) e in
+    let here : one_if (is_queued s i) ≡ 1 = ap one_if q in
     omega arith)
 
 pub meets_at_end : (items : List Placed) (s : State) → IsSound items s → s.stack ≡ [] → MeetsFlow items (label_at s)

@@ -1,10 +1,11 @@
--- The state of the labelling while it is found: a label for each item, whether an item is queued, and the stack of the queued.
-use Rattle.std.specs.Prelude.{◌≡◌, ℕ, suc, ◌+◌, ◌-◌, ◌*◌, ◌^◌, ◌<◌, ◌≤◌, Bool, true, false, List, length, Option, Some, None, slice_get, slice_index_or, Contains, unwrap_or}
+-- The state of the labelling while it is found: a label for each item, whether an item is queued, the stack of the queued, and
+-- how many numbers the stack has room for.
+use Rattle.std.specs.Prelude.{◌≡◌, ℕ, zero, suc, ◌+◌, ◌-◌, ◌*◌, ◌<◌, ◌≤◌, Bool, true, false, ◌==◌, nat_le, if◌then◌else◌, List, length, Option, Some, None, slice_get, slice_index_or, unwrap_or, count_by, vec_capacity}
 use Rattle.std.specs.Option.{option_map}
 use Rattle.std.specs.List.{sum_by}
 use Rattle.code_sweep.specs.declared.item.Item.{Item}
 use Rattle.code_sweep.specs.declared.item.Placed.{Placed}
-use Rattle.taint_flow.specs.Label.{Label, IsAtMost}
+use Rattle.taint_flow.specs.Label.{Label, flags, IsAtMost}
 use Rattle.taint_flow.specs.Flow.{Labelling, MeetsFlow, Leads, left_behind, said_behind}
 use Rattle.taint_flow.specs.Bits.{label_of, labelling_of}
 use Rattle.taint_flow.specs.declared.label.Label.{Label as LabelBits}
@@ -14,9 +15,10 @@ pub record State : Type 0 where
   pub labels : List LabelBits
   pub queued : List Bool
   pub stack : List ℕ
+  pub room : ℕ
 
 abbrev pub state_of : Worklist → State
-state_of w = record { labels = w.labels.items; queued = w.queued.items; stack = w.stack.items }
+state_of w = record { labels = w.labels.items; queued = w.queued.items; stack = w.stack.items; room = vec_capacity w.stack }
 
 -- what may be private before an item
 abbrev pub label_at : State → Labelling
@@ -25,23 +27,35 @@ label_at s = labelling_of s.labels
 abbrev pub is_queued : State → ℕ → Bool
 is_queued s i = slice_index_or s.queued i false
 
--- one label and one flag for each of so many items, and the stack holds numbers of items, each queued one among them
+-- one label and one flag for each of so many items, and room for all of them on the stack, which holds each queued item once
+-- and no other number
 pub record IsWhole (count : ℕ) (s : State) : Type 0 where
   pub labels : length s.labels ≡ count
   pub queued : length s.queued ≡ count
+  pub room : count ≤ s.room
   pub inside : (k d : ℕ) → k < length s.stack → slice_index_or s.stack k d < count
-  pub stacked : (i : ℕ) → is_queued s i ≡ true → Contains s.stack i
+  pub once : (i : ℕ) → count_by (λ k. k == i) s.stack ≡ (if is_queued s i then 1 else 0)
+  pub stacked : length s.stack ≡ count_by (λ b. b) s.queued
 
 -- the labels lie below a labelling
 abbrev pub IsBelow : State → Labelling → Type 0
 IsBelow s any = (i : ℕ) → IsAtMost (label_at s i) (any i)
 
--- what is left to do: each label can rise, and each item on the stack is to be looked at
+-- the label where each of the 17 names may be private
+abbrev pub all_private : Label
+all_private = λ k. nat_le k flags
+
+-- how many of the first n names may be private
+unfoldable pub private_names : ℕ → Label → ℕ
+private_names zero l = 0
+private_names (suc n) l = private_names n l + (if l n then 1 else 0)
+
+-- what is left to do: each name that is public in a label can become private, and each item on the stack is to be looked at
 abbrev pub room_above : LabelBits → ℕ
-room_above l = 2 ^ 32 - l.bits
+room_above l = 17 - private_names 17 (label_of l.bits)
 
 abbrev pub work_left : State → ℕ
-work_left s = 2 * sum_by room_above s.labels + length s.stack
+work_left s = sum_by room_above s.labels + length s.stack
 
 -- from one state to a later one: labels only rise, and what rose is queued
 pub record Rises (s t : State) : Type 0 where
@@ -79,11 +93,12 @@ word_label item = unwrap_or (said_behind item) (label_of 0)
 abbrev pub StaysLeast : List Placed → State → State → Type 0
 StaysLeast items s t = (any : Labelling) → MeetsFlow items any → IsBelow s any → IsBelow t any
 
--- at the start nothing is private and every item is queued
+-- at the start nothing is private and every item is queued, so an item is looked at once, and once more for each name
 pub record IsFresh (count : ℕ) (s : State) : Type 0 where
   pub whole : IsWhole count s
   pub public : (i k : ℕ) → label_at s i k ≡ false
   pub all_queued : (i : ℕ) → i < count → is_queued s i ≡ true
+  pub work : work_left s ≡ 18 * count
 
 -- what the search for the least labelling keeps: no label is too high, and what is not queued has handed on
 pub record IsSound (items : List Placed) (s : State) : Type 0 where

@@ -1,6 +1,6 @@
 //! The least labels that meet the flow rules.
 
-ghost use Rattle.std.specs.Prelude.{◌≡◌, ℕ, suc, ◌+◌, ◌<◌, ◌≤◌, ◌^◌, [], List, Option, Some, None, slice_get, length, OnOk, IfOk, if◌then◌else◌};
+ghost use Rattle.std.specs.Prelude.{◌≡◌, ℕ, suc, ◌+◌, ◌*◌, ◌<◌, ◌≤◌, ◌^◌, [], List, Option, Some, None, slice_get, length, OnErr, IfOk, if◌then◌else◌};
 ghost use Rattle.cv_word.specs.Arithmetic.{added};
 ghost use Rattle.cv_word.specs.MemoryMap.{code_base};
 ghost use Rattle.cv_word.specs.Words.{widened};
@@ -9,15 +9,16 @@ ghost use Rattle.taint_flow.specs.Label.{IsAtMost, entry_label};
 ghost use Rattle.taint_flow.specs.Flow.{Labelling, MeetsFlow, falls_through, left_behind, jump_target, address_after};
 ghost use Rattle.taint_flow.specs.Bits.{label_of, labelling_of};
 ghost use Rattle.taint_flow.specs.Places.{StandInOrder, NextStands, NumbersItems, number_at};
-ghost use Rattle.taint_flow.specs.Worklist.{state_of, IsWhole, Rises, HandsOn, StaysLeast, HasWords, IsFresh, IsSound, behind_word, word_label};
+ghost use Rattle.taint_flow.specs.Worklist.{state_of, label_at, all_private, work_left, IsWhole, Rises, HandsOn, StaysLeast, HasWords, IsFresh, IsSound, behind_word, word_label};
 
 use crate::label::{Label, entry_label, left_by, return_label};
 use crate::places::{ItemNumbers, item_numbers};
 use crate::worklist::{Worklist, join};
 use code_sweep::{Item, Listing, Placed};
-use cv_word::NoMemory;
+use cv_word::{NoMemory, Steps};
 use std::alloc::Global;
 use std::marker::Model;
+use std::sync::ledger::Ledger;
 use x64_decode::Instr;
 
 /// The flat address of a code's first byte.
@@ -54,21 +55,28 @@ impl Labels {
 
 /// The least labels that meet the flow rules. The listing's items stand in order in its code of at most 4,194,304 bytes,
 /// and one stands behind each word and each item that leads to the next. A jump whose target is no item leads nowhere.
-/// An item that nothing leads to has nothing private before it, and still hands on what it leaves. Room for the labels and
-/// the worklist is taken at the start; the one error is want of memory.
-pub fn label_code(alloc: Global, listing: &Listing<'_>) -> Result<Labels, NoMemory>
+/// An item that nothing leads to has nothing private before it, and still hands on what it leaves. A step is one use of an
+/// item's row, and there are at most 18 for each item. The one error is want of memory; all room is taken before the first
+/// step, so none is counted then.
+pub fn label_code<L: Ledger>(
+    alloc: Global,
+    listing: &Listing<'_>,
+    steps: &mut Steps<L>,
+) -> Result<Labels, NoMemory>
     requires order { StandInOrder listing.now.items.items listing.now.code.now }
     requires limit { length listing.now.code.now ≤ 4194304 }
     requires next { NextStands listing.now.items.items }
     ensures len { IfOk result (λ labels. length labels ≡ length listing.now.items.items) }
     ensures meets { IfOk result (λ labels. MeetsFlow listing.now.items.items (labelling_of labels)) }
     ensures least { IfOk result (λ labels. (any : Labelling) → MeetsFlow listing.now.items.items any → (i : ℕ) → IsAtMost (labelling_of labels i) (any i)) }
+    ensures bound { steps.new ≤ steps.old + 18 * length listing.now.items.items }
+    ensures room_first { OnErr result (steps.new ≡ steps.old) }
 {
     let numbers = item_numbers(alloc, listing)?;
     let items = listing.items.as_slice();
     let mut w = queue_all(alloc, items.len())?;
-    enter_words(&mut w, items)?;
-    settle(&mut w, items, &numbers)?;
+    enter_words(&mut w, items);
+    settle(&mut w, items, &numbers, steps);
     Ok(Labels { labels: w.labels })
 }
 
@@ -81,7 +89,7 @@ fn queue_all(alloc: Global, count: usize) -> Result<Worklist, NoMemory>
     let queued = vec![in alloc; true; count]?;
     let mut stack = Vec::with_capacity(alloc, count)?;
     for i in 0..count {
-        stack.push((count - 1 - i) as u32)?;
+        stack.push_reserved((count - 1 - i) as u32);
     }
     Ok(Worklist {
         labels,
@@ -91,18 +99,17 @@ fn queue_all(alloc: Global, count: usize) -> Result<Worklist, NoMemory>
 }
 
 /// Joins what each word says into the label behind it.
-fn enter_words(w: &mut Worklist, items: &[Placed]) -> Result<(), NoMemory>
+fn enter_words(w: &mut Worklist, items: &[Placed])
     requires whole { IsWhole (length items.now) (state_of w.old) }
     requires limit { length items.now < 2 ^ 32 }
     requires next { NextStands items.now }
-    ensures rises { OnOk result (Rises (state_of w.old) (state_of w.new)) }
-    ensures words { OnOk result (HasWords items.now (length items.now) (state_of w.new)) }
-    ensures least { OnOk result (StaysLeast items.now (state_of w.old) (state_of w.new)) }
+    ensures rises { Rises (state_of w.old) (state_of w.new) }
+    ensures words { HasWords items.now (length items.now) (state_of w.new) }
+    ensures least { StaysLeast items.now (state_of w.old) (state_of w.new) }
 {
     for (i, p) in items.iter().enumerate() {
-        join(w, behind_word(&p.item, i), word_label(&p.item))?;
+        join(w, behind_word(&p.item, i), word_label(&p.item));
     }
-    Ok(())
 }
 
 /// The number of the item behind a word.
@@ -129,49 +136,58 @@ fn word_label(item: &Item) -> Label
 }
 
 /// Lets each queued item hand on what it leaves, until none is queued.
-fn settle(w: &mut Worklist, items: &[Placed], numbers: &ItemNumbers) -> Result<(), NoMemory>
+fn settle<L: Ledger>(
+    w: &mut Worklist,
+    items: &[Placed],
+    numbers: &ItemNumbers,
+    steps: &mut Steps<L>,
+)
     requires sound { IsSound items.now (state_of w.old) }
     requires limit { length items.now < 2 ^ 32 }
     requires numbers { NumbersItems items.now (number_at numbers.now) }
     requires next { NextStands items.now }
-    ensures sound { OnOk result (IsSound items.now (state_of w.new)) }
-    ensures empty { OnOk result (w.new.stack.items ≡ []) }
+    ensures sound { IsSound items.now (state_of w.new) }
+    ensures empty { w.new.stack.items ≡ [] }
+    ensures bound { steps.new ≤ steps.old + work_left (state_of w.old) }
 {
     while let Some(i) = w.stack.pop() {
         let i = i as usize;
         w.queued[i] = false;
-        hand_on(w, items, numbers, i)?;
+        hand_on(w, items, numbers, i, steps);
     }
-    Ok(())
 }
 
 /// Joins what item `i` leaves into the labels of the items that it leads to.
-fn hand_on(
+fn hand_on<L: Ledger>(
     w: &mut Worklist,
     items: &[Placed],
     numbers: &ItemNumbers,
     i: usize,
-) -> Result<(), NoMemory>
+    steps: &mut Steps<L>,
+)
     requires whole { IsWhole (length items.now) (state_of w.old) }
     requires inside { i < length items.now }
+    requires names { IsAtMost (label_at (state_of w.old) i) all_private }
     requires limit { length items.now < 2 ^ 32 }
     requires numbers { NumbersItems items.now (number_at numbers.now) }
     requires next { NextStands items.now }
-    ensures rises { OnOk result (Rises (state_of w.old) (state_of w.new)) }
-    ensures handed { OnOk result (HandsOn items.now i (state_of w.old) (state_of w.new)) }
-    ensures least { OnOk result (StaysLeast items.now (state_of w.old) (state_of w.new)) }
+    ensures rises { Rises (state_of w.old) (state_of w.new) }
+    ensures handed { HandsOn items.now i (state_of w.old) (state_of w.new) }
+    ensures least { StaysLeast items.now (state_of w.old) (state_of w.new) }
+    ensures step { steps.new ≡ steps.old + 1 }
 {
     let p = items[i];
-    let out = left_behind(&p.item, w.labels[i]);
-    join(w, next_number(&p.item, i), out)?;
-    join(w, target_number(numbers, &p), out)?;
-    Ok(())
+    let out = left_behind(&p.item, w.labels[i], steps);
+    join(w, next_number(&p.item, i), out);
+    join(w, target_number(numbers, &p), out);
 }
 
-/// What may be private behind an item.
-fn left_behind(item: &Item, l: Label) -> Label
-    ensures { label_of result.bits ≡ left_behind item.now (label_of l.bits) }
+/// What may be private behind an item. Each use of an item's row is here, and is a step.
+fn left_behind<L: Ledger>(item: &Item, l: Label, steps: &mut Steps<L>) -> Label
+    ensures label { label_of result.bits ≡ left_behind item.now (label_of l.bits) }
+    ensures step { steps.new ≡ steps.old + 1 }
 {
+    steps.tick();
     match *item {
         Item::Plain(i) => left_by(&i, l),
         _ => l,

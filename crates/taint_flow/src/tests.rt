@@ -1,12 +1,18 @@
+ghost use Rattle.std.specs.Prelude.{◌≡◌, ◌<◌, ◌≤◌, length, IfOk};
+ghost use Rattle.taint_flow.specs.Places.{StandInOrder, NextStands};
+
 use crate::calls::callee;
-use crate::flow::label_code;
+use crate::flow::{Labels, label_code};
 use crate::label::{
     Label, branches_on_private, divides_private, entry_label, has_private_address,
     leaves_private_stack, left_by, passes_private, return_label, returns_private, stores_private,
 };
 use crate::places::item_numbers;
 use code_sweep::{Item, Listing, Placed};
+use cv_word::{NoMemory, Steps};
 use std::alloc::Global;
+use std::marker::Brand;
+use std::sync::ledger::{Blank, Ledger};
 use std::test::Fail;
 use x64_decode::{AluOp, Cond, Instr, Mem, Reg, Seg, ShiftOp, Width};
 
@@ -329,6 +335,24 @@ fn arguments(rt: HostRuntime) {
     }
 }
 
+/// The least labels, with a counter that is read by nobody.
+fn labels_of<L: Ledger>(
+    alloc: Global,
+    listing: &Listing<'_>,
+    blank: Blank,
+) -> Result<Labels, NoMemory>
+    requires name { blank.name ≡ L.name }
+    requires parts { blank.parts ≡ L.parts }
+    requires some { 0 < blank.parts }
+    requires order { StandInOrder listing.now.items.items listing.now.code.now }
+    requires limit { length listing.now.code.now ≤ 4194304 }
+    requires next { NextStands listing.now.items.items }
+    ensures { IfOk result (λ labels. length labels ≡ length listing.now.items.items) }
+{
+    let mut steps = Steps::<L>::new(blank);
+    label_code(alloc, listing, &mut steps)
+}
+
 /// A call at place 8, a return word behind it, UD2, and a procedure with bits 5 at place 23: what the call names.
 #[test]
 fn callees(rt: HostRuntime) -> Result<(), Fail> {
@@ -383,7 +407,7 @@ fn callees(rt: HostRuntime) -> Result<(), Fail> {
         let numbers = item_numbers(rt.alloc(), &listing)?;
         let called = callee(listing.items.as_slice(), &numbers, &call);
         assert_eq!(rt; called, wanted, "{rel}");
-        let labels = label_code(rt.alloc(), &listing)?;
+        let labels = labels_of::<Brand>(rt.alloc(), &listing, Blank::new(1))?;
         assert_eq!(rt; labels.get(1).bits, 0x1_ffef);
         assert_eq!(rt; labels.get(3).bits, 0x1_ffee);
     }
@@ -455,7 +479,7 @@ fn check_loop(
     assert_eq!(rt; numbers.at(35), Some(6));
     assert_eq!(rt; numbers.at(36), None);
     assert_eq!(rt; numbers.at(37), None);
-    let labels = label_code(alloc, &listing)?;
+    let labels = labels_of::<Brand>(alloc, &listing, Blank::new(1))?;
     assert_eq!(rt; labels.len(), 7);
     for (i, label) in expected.iter().enumerate() {
         assert_eq!(rt; labels.get(i).bits, *label, "item {i}");

@@ -1,14 +1,14 @@
 //! The worklist of the labelling: labels that rise, and the items that have yet to hand on what rose.
 
-ghost use Rattle.std.specs.Prelude.{◌≡◌, ℕ, ◌<◌, ◌^◌, Some, length, OnOk};
+ghost use Rattle.std.specs.Prelude.{◌≡◌, ℕ, ◌<◌, Some, length};
+ghost use Rattle.taint_flow.specs.Label.{IsAtMost};
 ghost use Rattle.taint_flow.specs.Bits.{label_of};
-ghost use Rattle.taint_flow.specs.Worklist.{state_of, label_at, Rises, TakesIn, StaysBelow};
+ghost use Rattle.taint_flow.specs.Worklist.{state_of, all_private, IsWhole, Rises, TakesIn, StaysBelow};
 
 use crate::label::Label;
-use cv_word::NoMemory;
 
-/// A label for each item, whether it is queued, and the stack of the queued items. A number on the stack whose item is
-/// not queued is looked at once more than needed.
+/// A label for each item, whether it is queued, and the stack of the queued items, each of which stands there once. The stack
+/// has room for all items from the start.
 #[derive(Drop)]
 pub struct Worklist {
     pub labels: Vec<Label>,
@@ -17,26 +17,26 @@ pub struct Worklist {
 }
 
 /// Joins a label into that of the item `to`, if one is named, and queues the item if its label rose.
-pub fn join(w: &mut Worklist, to: Option<u32>, out: Label) -> Result<(), NoMemory>
+pub fn join(w: &mut Worklist, to: Option<u32>, out: Label)
+    requires whole { IsWhole (length w.old.labels.items) (state_of w.old) }
     requires inside { (j : ℕ) → to ≡ Some j → j < length w.old.labels.items }
-    requires flags { length w.old.queued.items ≡ length w.old.labels.items }
-    ensures rises { OnOk result (Rises (state_of w.old) (state_of w.new)) }
-    ensures takes { OnOk result (TakesIn to (label_of out.bits) (state_of w.new)) }
-    ensures stays { OnOk result (StaysBelow to (label_of out.bits) (state_of w.old) (state_of w.new)) }
+    requires names { IsAtMost (label_of out.bits) all_private }
+    ensures rises { Rises (state_of w.old) (state_of w.new) }
+    ensures takes { TakesIn to (label_of out.bits) (state_of w.new) }
+    ensures stays { StaysBelow to (label_of out.bits) (state_of w.old) (state_of w.new) }
 {
     let Some(to) = to else {
-        return Ok(());
+        return;
     };
     let j = to as usize;
     let before = w.labels[j].bits;
     let joined = before | out.bits;
     if joined == before {
-        return Ok(());
+        return;
     }
     w.labels[j] = Label { bits: joined };
     if !w.queued[j] {
         w.queued[j] = true;
-        w.stack.push(to)?;
+        w.stack.push_reserved(to);
     }
-    Ok(())
 }

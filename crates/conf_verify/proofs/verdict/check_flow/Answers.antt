@@ -12,13 +12,13 @@ use Rattle.conf_verify.proofs.Steps.{next_stands}
 use Rattle.conf_verify.proofs.Ends.{refusal, flow_at, flow_none}
 use Rattle.conf_verify.proofs.verdict.check_flow.Goals as goal
 
-pub label_code-requires-clause-order : goal.label_code-requires-clause-order
-label_code-requires-clause-order c =
+pub least_labels-requires-clause-order : goal.least_labels-requires-clause-order
+least_labels-requires-clause-order c =
     subst (λ (l : List ℕ). StandInOrder c.args.listing.now.items.items l) (sym c.requires.code)
     (order_from_listing c.args.parts.now.prefix c.args.parts.now.code.now c.args.listing.now.items.items c.requires.listing)
 
-pub label_code-requires-clause-next : goal.label_code-requires-clause-next
-label_code-requires-clause-next c =
+pub least_labels-requires-clause-next : goal.least_labels-requires-clause-next
+least_labels-requires-clause-next c =
     next_stands (image_of c.args.parts.now) c.args.listing.now.items.items (λ rule place low b. c.requires.shape rule place b)
 
 pub returns-in-Some-clause-refused : goal.returns-in-Some-clause-refused

@@ -1,9 +1,9 @@
-use Rattle.std.proofs.Common.{rules, arith, ◌<◌, ℕ, length}
+use Rattle.std.proofs.Common.{arith, ◌<◌, ℕ, length, vec_capacity, true, false}
 use Rattle.std.specs.Int.RustNames.{bit_or}
 use Rattle.taint_flow.specs.Label.{IsAtMost}
 use Rattle.taint_flow.specs.Bits.{label_of, labelling_of}
 use Rattle.taint_flow.specs.Worklist.{state_of, label_at}
-use Rattle.taint_flow.proofs.Joins.{rises_queued, rises_pushed, takes_same, takes_joined, stays_joined, with_bits, reads_from, at_named, queued_read}
+use Rattle.taint_flow.proofs.Joins.{rises_queued, rises_pushed, takes_same, takes_joined, stays_joined, with_bits, reads_from, at_named, queued_read, room_left}
 use Rattle.taint_flow.proofs.worklist.join.Goals as goal
 
 pub returns-then-joined-before-clause-takes : goal.returns-then-joined-before-clause-takes
@@ -12,32 +12,44 @@ returns-then-joined-before-clause-takes c =
     (takes_same (state_of c.args.w.now) c.in-Some.to c.args.out.bits c.index.result.now (c.requires.inside c.in-Some.to c.in-Some.is) c.index.ensures
     c.if-joined-before.true)
 
-pub returns-in_ok-push-clause-rises : goal.returns-in_ok-push-clause-rises
-returns-in_ok-push-clause-rises c =
-    rises_pushed (state_of c.args.w.now) c.in-Some.to c.index.result.now.bits c.args.out.bits _
-    (reads_from _ _ _ c.index.result.now (c.requires.inside c.in-Some.to c.in-Some.is) c.requires.flags c.index.ensures (search rules) c.if-joined-before.false)
-    c.in_ok-push.ensures.items
+pub push_reserved-requires : goal.push_reserved-requires
+push_reserved-requires c =
+    let named : c.in-Some.to < length c.args.w.now.labels.items = c.requires.inside c.in-Some.to c.in-Some.is in
+    let inside : c.in-Some.to < length c.args.w.now.queued.items = omega (arith, c.requires.whole.queued) in
+    let room : length c.args.w.now.stack.items < vec_capacity c.args.w.now.stack =
+    room_left (length c.args.w.now.labels.items) (state_of c.args.w.now) c.in-Some.to c.requires.whole named
+    (queued_read c.args.w.now.queued.items c.in-Some.to c.index-2.result.now false inside c.index-2.ensures c.if-not-index.true) in
+    omega (arith, room, c.args.w.now.stack.ok.0)
 
-pub returns-in_ok-push-clause-takes : goal.returns-in_ok-push-clause-takes
-returns-in_ok-push-clause-takes c =
+pub returns-then-not-index-clause-rises : goal.returns-then-not-index-clause-rises
+returns-then-not-index-clause-rises c =
+    let named : c.in-Some.to < length c.args.w.now.labels.items = c.requires.inside c.in-Some.to c.in-Some.is in
+    let inside : c.in-Some.to < length c.args.w.now.queued.items = omega (arith, c.requires.whole.queued) in
+    rises_pushed (state_of c.args.w.now) c.in-Some.to c.index.result.now.bits c.args.out.bits _ _
+    (reads_from _ _ _ c.index.result.now (c.requires.inside c.in-Some.to c.in-Some.is) c.requires.whole.queued c.index.ensures c.requires.names c.if-joined-before.false)
+    (queued_read c.args.w.now.queued.items c.in-Some.to c.index-2.result.now false inside c.index-2.ensures c.if-not-index.true)
+    c.push_reserved.ensures.items c.push_reserved.ensures.capacity
+
+pub returns-then-not-index-clause-takes : goal.returns-then-not-index-clause-takes
+returns-then-not-index-clause-takes c =
     at_named c.args.to c.in-Some.to
     (λ (k : ℕ). IsAtMost (label_of c.args.out.bits)
     (labelling_of (with_bits c.args.w.now.labels.items c.in-Some.to (bit_or c.index.result.now.bits c.args.out.bits)) k))
     c.in-Some.is (takes_joined (state_of c.args.w.now) c.in-Some.to c.index.result.now.bits c.args.out.bits (c.requires.inside c.in-Some.to c.in-Some.is))
 
-pub returns-in_ok-push-clause-stays : goal.returns-in_ok-push-clause-stays
-returns-in_ok-push-clause-stays c = λ any small below.
+pub returns-then-not-index-clause-stays : goal.returns-then-not-index-clause-stays
+returns-then-not-index-clause-stays c = λ any small below.
     stays_joined (state_of c.args.w.now) c.in-Some.to c.index.result.now.bits c.args.out.bits
-    (reads_from _ _ _ c.index.result.now (c.requires.inside c.in-Some.to c.in-Some.is) c.requires.flags c.index.ensures (search rules) c.if-joined-before.false)
+    (reads_from _ _ _ c.index.result.now (c.requires.inside c.in-Some.to c.in-Some.is) c.requires.whole.queued c.index.ensures c.requires.names c.if-joined-before.false)
     any (small c.in-Some.to c.in-Some.is) below
 
 pub returns-else-not-index-clause-rises : goal.returns-else-not-index-clause-rises
 returns-else-not-index-clause-rises c =
     let named : c.in-Some.to < length c.args.w.now.labels.items = c.requires.inside c.in-Some.to c.in-Some.is in
-    let inside : c.in-Some.to < length c.args.w.now.queued.items = omega (arith, c.requires.flags) in
+    let inside : c.in-Some.to < length c.args.w.now.queued.items = omega (arith, c.requires.whole.queued) in
     rises_queued (state_of c.args.w.now) c.in-Some.to c.index.result.now.bits c.args.out.bits
-    (reads_from _ _ _ c.index.result.now (c.requires.inside c.in-Some.to c.in-Some.is) c.requires.flags c.index.ensures (search rules) c.if-joined-before.false)
-    (queued_read c.args.w.now.queued.items c.in-Some.to c.index-2.result.now inside c.index-2.ensures c.if-not-index.false)
+    (reads_from _ _ _ c.index.result.now (c.requires.inside c.in-Some.to c.in-Some.is) c.requires.whole.queued c.index.ensures c.requires.names c.if-joined-before.false)
+    (queued_read c.args.w.now.queued.items c.in-Some.to c.index-2.result.now true inside c.index-2.ensures c.if-not-index.false)
 
 pub returns-else-not-index-clause-takes : goal.returns-else-not-index-clause-takes
 returns-else-not-index-clause-takes c =
@@ -49,5 +61,5 @@ returns-else-not-index-clause-takes c =
 pub returns-else-not-index-clause-stays : goal.returns-else-not-index-clause-stays
 returns-else-not-index-clause-stays c = λ any small below.
     stays_joined (state_of c.args.w.now) c.in-Some.to c.index.result.now.bits c.args.out.bits
-    (reads_from _ _ _ c.index.result.now (c.requires.inside c.in-Some.to c.in-Some.is) c.requires.flags c.index.ensures (search rules) c.if-joined-before.false)
+    (reads_from _ _ _ c.index.result.now (c.requires.inside c.in-Some.to c.in-Some.is) c.requires.whole.queued c.index.ensures c.requires.names c.if-joined-before.false)
     any (small c.in-Some.to c.in-Some.is) below
