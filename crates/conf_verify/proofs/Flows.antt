@@ -14,7 +14,7 @@ use Rattle.code_sweep.specs.declared.item.Item.TheVariants.{Call, Ret, Plain, Re
 use Rattle.code_sweep.specs.declared.item.Placed.{Placed}
 use Rattle.code_sweep.specs.Listing.{BreaksAt}
 use Rattle.taint_flow.specs.Label.{Label, IsAtMost, taint, flags, left_by}
-use Rattle.taint_flow.specs.Flow.{Labelling, MeetsFlow, memory_of, base_is_private, shows_private, has_private_address, instruction_stores_private, stores_private, instruction_branches_on_private, branches_on_private, instruction_divides_private, divides_private, leaves_private_stack, passes_private, returns_private}
+use Rattle.taint_flow.specs.Flow.{Labelling, MeetsFlow, memory_of, base_is_private, shows_private, has_private_address, instruction_stores_private, stores_private, instruction_branches_on_private, branches_on_private, instruction_divides_private, divides_private, leaves_rsp_private, passes_private, returns_private}
 use Rattle.taint_flow.specs.Calls.{callee}
 use Rattle.std.specs.Int.{bit_at}
 use Rattle.taint_flow.proofs.Monotone.{left_by_up}
@@ -91,7 +91,7 @@ divides_up : (item : Item) (l k : Label) → IsAtMost l k → divides_private it
 divides_up (Plain i) l k h e = instruction_divides_up i l k h e
 divides_up _ l k h e = e
 
-stack_up : (item : Item) (l k : Label) → IsAtMost l k → leaves_private_stack item l ≡ true → leaves_private_stack item k ≡ true
+stack_up : (item : Item) (l k : Label) → IsAtMost l k → leaves_rsp_private item l ≡ true → leaves_rsp_private item k ≡ true
 stack_up (Plain i) l k h e = left_by_up i l k h _ e
 stack_up _ l k h e = e
 

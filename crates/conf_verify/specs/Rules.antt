@@ -11,7 +11,7 @@ use Rattle.code_sweep.specs.declared.item.Item.TheVariants.{Call, Ret, Plain, Re
 use Rattle.code_sweep.specs.declared.item.Placed.{Placed}
 use Rattle.code_sweep.specs.Listing.{IsListing, BreaksAt}
 use Rattle.taint_flow.specs.Label.{Label}
-use Rattle.taint_flow.specs.Flow.{address, jump_target, Labelling, MeetsFlow, has_private_address, stores_private, branches_on_private, divides_private, leaves_private_stack, passes_private, returns_private}
+use Rattle.taint_flow.specs.Flow.{address, jump_target, Labelling, MeetsFlow, has_private_address, stores_private, branches_on_private, divides_private, leaves_rsp_private, passes_private, returns_private}
 use Rattle.taint_flow.specs.Calls.{call_bits, call_target, callee, is_call}
 use Rattle.image_form.specs.Image.{Image, IsGood, spelling}
 use Rattle.image_form.specs.Table.{IsFault}
@@ -133,7 +133,7 @@ item_breaks V10 called item l = has_private_address item l
 item_breaks V11 called item l = stores_private item l
 item_breaks V12 called item l = branches_on_private item l
 item_breaks V13 called item l = divides_private item l
-item_breaks V14 called item l = leaves_private_stack item l
+item_breaks V14 called item l = leaves_rsp_private item l
 item_breaks V15 called item l = passes_private called l
 item_breaks V16 called item l = returns_private item l
 item_breaks _ called item l = false

@@ -17,7 +17,7 @@ use std::alloc::Global;
 use std::sync::ledger::{Blank, Ledger};
 use taint_flow::{
     ItemNumbers, Label, Labels, branches_on_private, callee, divides_private, has_private_address,
-    label_code, leaves_private_stack, passes_private, returns_private, stores_private,
+    label_code, leaves_rsp_private, passes_private, returns_private, stores_private,
 };
 
 /// The least labels that meet the flow rules. Nobody reads how many steps that took, so any new ledger serves.
@@ -58,7 +58,7 @@ fn item_broken(item: &Item, called: Option<u8>, l: Label) -> Option<Rule>
     if divides_private(item, l) {
         return Some(Rule::V13);
     }
-    if leaves_private_stack(item, l) {
+    if leaves_rsp_private(item, l) {
         return Some(Rule::V14);
     }
     if passes_private(called, l) {

@@ -57,6 +57,6 @@ is_call (Plain i) = instruction_is_call i
 is_call (CallUnit r bits) = true
 is_call _ = false
 
--- each call word of the items has eight bytes
+-- the call words among the items are of eight bytes
 abbrev pub AreEight : List Placed → Type 0
 AreEight items = (i : ℕ) (p : Placed) (bits : ℕ) → slice_get items i ≡ Some p → p.item ≡ Call bits → p.len ≡ 8

@@ -23,7 +23,7 @@ address p = code_base + p.at
 abbrev pub address_after : Placed → ℕ
 address_after p = code_base + p.at + p.len
 
--- The item leads to the one behind it. Calls, jumps without a condition, UD2, words and check units don't.
+-- The item leads to the one behind it. CALL, JMP, UD2, words and check units don't.
 abbrev pub instruction_falls : Instr → Bool
 instruction_falls (instr.Call rel) = false
 instruction_falls (Jmp rel) = false
@@ -54,7 +54,7 @@ Leads items i j =
     (((falls_through p.item ≡ true) × (j ≡ suc i)) ⊎
     ((q : Placed) × (slice_get items j ≡ Some q) × (jump_target p ≡ Some (address q))))
 
--- what may be private behind an item, from what may be before it
+-- what an item hands on to those that it leads to, from what may be private before it
 abbrev pub left_behind : Item → Label → Label
 left_behind (Plain i) l = left_by i l
 left_behind _ l = l
@@ -129,9 +129,9 @@ divides_private (Plain i) l = instruction_divides_private i l
 divides_private _ l = false
 
 -- an instruction behind which rsp may be private
-abbrev pub leaves_private_stack : Item → Label → Bool
-leaves_private_stack (Plain i) l = taint (left_by i l) Rsp
-leaves_private_stack _ l = false
+abbrev pub leaves_rsp_private : Item → Label → Bool
+leaves_rsp_private (Plain i) l = taint (left_by i l) Rsp
+leaves_rsp_private _ l = false
 
 -- a call with the bits of what is called: an argument may be private whose bit is clear
 abbrev pub passes_private : Option ℕ → Label → Bool

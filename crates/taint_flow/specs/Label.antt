@@ -47,7 +47,8 @@ abbrev pub segment_taint : Seg → Bool
 segment_taint Fs = false
 segment_taint Gs = true
 
--- what may be private behind an instruction, from what may be before it: a row for each instruction
+-- What may be private behind an instruction, from what may be before it: a row for each instruction. A call hands on nothing,
+-- and its row is the label as it was.
 unfoldable pub left_by : Instr → Label → Label
 left_by (Mov wide dst src) l = set_reg dst (taint l src) l
 left_by (Alu op dst src) l = set_where (is_written op) dst (taint l dst || taint l src) (set flags (taint l dst || taint l src) l)

@@ -5,7 +5,7 @@ ghost use Rattle.x64_decode.specs.Spelling.{number};
 ghost use Rattle.x64_decode.specs.declared.instr.Reg.TheVariants.{Rax, Rdx};
 ghost use Rattle.taint_flow.specs.Label.{set, set_reg, set_where, taint, flags, is_written, segment_taint, left_by, entry_label, return_label};
 ghost use Rattle.taint_flow.specs.Bits.{label_of};
-ghost use Rattle.taint_flow.specs.Flow.{memory_of, base_is_private, shows_private, has_private_address, stores_private, branches_on_private, divides_private, leaves_private_stack, passes_private, returns_private};
+ghost use Rattle.taint_flow.specs.Flow.{memory_of, base_is_private, shows_private, has_private_address, stores_private, branches_on_private, divides_private, leaves_rsp_private, passes_private, returns_private};
 
 use code_sweep::Item;
 use x64_decode::{AluOp, Instr, Mem, Reg, Seg};
@@ -260,8 +260,8 @@ pub fn divides_private(item: &Item, l: Label) -> bool
 }
 
 /// Whether it is an instruction behind which rsp may be private.
-pub fn leaves_private_stack(item: &Item, l: Label) -> bool
-    ensures { result ≡ leaves_private_stack item.now (label_of l.bits) }
+pub fn leaves_rsp_private(item: &Item, l: Label) -> bool
+    ensures { result ≡ leaves_rsp_private item.now (label_of l.bits) }
 {
     match item {
         Item::Plain(i) => left_by(i, l).taint(Reg::Rsp),

@@ -16,7 +16,7 @@ pub use calls::{call_target, callee, is_call};
 pub use flow::{Labels, jump_target, label_code};
 pub use label::{
     Label, branches_on_private, divides_private, entry_label, has_private_address,
-    leaves_private_stack, left_by, passes_private, return_label, returns_private, stores_private,
+    leaves_rsp_private, left_by, passes_private, return_label, returns_private, stores_private,
 };
 pub use places::{ItemNumbers, item_numbers};
 

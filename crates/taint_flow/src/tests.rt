@@ -5,7 +5,7 @@ use crate::calls::callee;
 use crate::flow::{Labels, label_code};
 use crate::label::{
     Label, branches_on_private, divides_private, entry_label, has_private_address,
-    leaves_private_stack, left_by, passes_private, return_label, returns_private, stores_private,
+    leaves_rsp_private, left_by, passes_private, return_label, returns_private, stores_private,
 };
 use crate::places::item_numbers;
 use code_sweep::{Item, Listing, Placed};
@@ -307,8 +307,8 @@ fn rules(rt: HostRuntime) {
     assert!(rt; stores_private(&store, rcx) && !stores_private(&store, rbx));
     assert!(rt; branches_on_private(&jump, flags) && !branches_on_private(&jump, rcx));
     assert!(rt; divides_private(&division, rcx) && !divides_private(&division, rbx));
-    assert!(rt; leaves_private_stack(&load, rcx) && !leaves_private_stack(&store, rcx));
-    assert!(rt; leaves_private_stack(&store, rsp) && !leaves_private_stack(&unit, rsp));
+    assert!(rt; leaves_rsp_private(&load, rcx) && !leaves_rsp_private(&store, rcx));
+    assert!(rt; leaves_rsp_private(&store, rsp) && !leaves_rsp_private(&unit, rsp));
     assert!(rt; returns_private(&unit, rax) && !returns_private(&Item::ReturnUnit(1), rax));
 }
 
