@@ -1,10 +1,8 @@
 -- The names of a label: no row leaves one above the flags, and a label that takes in another has more of them.
-use Rattle.std.proofs.Common.{subst, ◌≡◌, ℕ, zero, suc, ◌+◌, ◌<◌, ◌≤◌, Bool, true, false, cond, not, eqb, leb, refl, sym, ◌∙◌, ap, arith, max, Option, Some, List, inl, inr, ◌⊎◌}
-use Rattle.std.specs.List.{slice_get}
-use Rattle.std.specs.Prelude.{unwrap_or}
+use Rattle.std.proofs.Common.{subst, ◌≡◌, ℕ, zero, suc, ◌+◌, ◌<◌, ◌≤◌, Bool, true, false, cond, not, eqb, leb, refl, sym, ◌∙◌, ap, arith, Some, List, inl, inr, ◌⊎◌}
 use Rattle.std.specs.Int.{bit_at}
 use Rattle.std.specs.Int.RustNames.{bit_or}
-use Rattle.std.proofs.lemmas.Bool.{and_parts, cases_eq, cases_lt, eq-eqb, eqb-true, eqb-false, ne_eqb, cond-false, false_from_ne_true, true≢false, false≢true, le-leb, lt-leb}
+use Rattle.std.proofs.lemmas.Bool.{and_parts, cases_eq, cases_lt, eq-eqb, eqb-true, eqb-false, ne_eqb, cond-false, true≢false, false≢true, le-leb, lt-leb}
 use Rattle.std.proofs.lemmas.Option.{same_Some, none-some}
 use Rattle.std.proofs.lemmas.Nat.Bits.{bit_at_or, bit_at-lt, bit_at-zero, same_from_bits}
 use Rattle.x64_decode.specs.Spelling.{number}
@@ -20,6 +18,7 @@ use Rattle.taint_flow.specs.Label.{Label, flags, set, set_reg, set_where, is_wri
 use Rattle.taint_flow.specs.Flow.{MeetsFlow, left_behind, said_behind}
 use Rattle.taint_flow.specs.Bits.{label_of}
 use Rattle.taint_flow.specs.Worklist.{all_private, private_names, word_label}
+use Rattle.taint_flow.proofs.Stacks.{one_if, one_most}
 use Rattle.taint_flow.proofs.Bits.{at_most_left, entry_is, all_is}
 
 -- a name set in a label that has none above the flags
@@ -109,20 +108,13 @@ all_meets items = record {
 }
 
 -- the number of names
-one_most : (b : Bool) → cond b 1 0 ≤ 1
-one_most true = omega arith
-one_most false = omega arith
-
 pub names_most : (n : ℕ) (l : Label) → private_names n l ≤ n
 unfolding private_names
 names_most zero l = omega arith
 names_most (suc n) l =
     let rest : private_names n l ≤ n = names_most n l in
-    let last : cond (l n) 1 0 ≤ 1 = one_most (l n) in
+    let last : one_if (l n) ≤ 1 = one_most (l n) in
     omega arith
-
-abbrev one_if : Bool → ℕ
-one_if b = cond b 1 0
 
 agree_more : (n : ℕ) (l m : Label) → l n ≡ m n → ((k : ℕ) → k < n → l k ≡ m k) → (k : ℕ) → k < suc n → (k ≡ n) ⊎ (k ≡ n → ⊥) → l k ≡ m k
 agree_more n l m here below k h (inl e) = ap l e ∙ (here ∙ ap m (sym e))

@@ -1,6 +1,6 @@
 -- The state of the labelling while it is found: a label for each item, whether an item is queued, the stack of the queued, and
 -- how many numbers the stack has room for.
-use Rattle.std.specs.Prelude.{◌≡◌, ℕ, zero, suc, ◌+◌, ◌-◌, ◌*◌, ◌<◌, ◌≤◌, Bool, true, false, ◌==◌, nat_le, if◌then◌else◌, List, length, Option, Some, None, slice_get, slice_index_or, unwrap_or, count_by, vec_capacity}
+use Rattle.std.specs.Prelude.{◌≡◌, ℕ, zero, suc, ◌+◌, ◌-◌, ◌*◌, ◌<◌, ◌≤◌, Bool, true, false, ◌==◌, nat_le, if◌then◌else◌, List, length, Option, Some, slice_get, slice_index_or, unwrap_or, count_by, vec_capacity}
 use Rattle.std.specs.Option.{option_map}
 use Rattle.std.specs.List.{sum_by}
 use Rattle.code_sweep.specs.declared.item.Item.{Item}

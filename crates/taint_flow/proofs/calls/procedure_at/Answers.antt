@@ -1,4 +1,4 @@
-use Rattle.std.proofs.Common.{sym, ◌∙◌, length, get_or, ◌<◌, ◌≡◌, ◌-◌, None, Some, Option, ℕ, arith}
+use Rattle.std.proofs.Common.{sym, ◌∙◌, get_or, ◌-◌}
 use Rattle.std.proofs.lemmas.Option.{slice_get-get_or}
 use Rattle.cv_word.specs.MemoryMap.{code_base}
 use Rattle.taint_flow.specs.Places.{number_at}

@@ -1,4 +1,4 @@
-use Rattle.std.proofs.Common.{arith, rules, sym, subst, List, ℕ, ◌+◌, ◌≤◌, vec_capacity}
+use Rattle.std.proofs.Common.{arith, rules, sym, subst, List, ℕ, ◌+◌, vec_capacity}
 use Rattle.taint_flow.proofs.Sound.{Highest, highest_more, fresh_from}
 use Rattle.taint_flow.proofs.flow.queue_all.Goals as goal
 
