@@ -1,18 +1,19 @@
 -- A join: one label takes in another, and the item is queued.
-use Rattle.std.proofs.Common.{subst, ◌≡◌, ℕ, ◌+◌, ◌-◌, ◌<◌, ◌≤◌, ◌≢◌, Bool, true, false, cond, eqb, List, [], ◌∷◌, ◌++◌, length, set, get_or, sym, ◌∙◌, ap, arith, Option, Some, inl, inr, ◌⊎◌}
-use Rattle.std.specs.List.{sum_by, count_by}
+use Rattle.std.proofs.Common.{subst, ◌≡◌, ℕ, ◌+◌, ◌-◌, ◌<◌, ◌≤◌, ◌≢◌, Bool, true, false, List, [], ◌∷◌, ◌++◌, length, set, get_or, sym, ◌∙◌, ap, arith, Option, Some, inl, inr, ◌⊎◌}
+use Rattle.std.specs.List.{sum_by}
 use Rattle.std.specs.Int.RustNames.{bit_or}
 use Rattle.std.proofs.lemmas.Option.{same_Some}
-use Rattle.std.proofs.lemmas.Bool.{cases_eq, eq-eqb, ne_eqb, true≢false}
+use Rattle.std.proofs.lemmas.Bool.{cases_eq, true≢false}
 use Rattle.std.proofs.lemmas.List.{length-set, get_or-set_same, get_or-set_other, length_push, get_or_read}
 use Rattle.std.proofs.lemmas.List.Elements.{All-push}
-use Rattle.std.proofs.lemmas.List.Sums.{sum_by-set, sum_by_push, count_by-le-length}
+use Rattle.std.proofs.lemmas.List.Sums.{sum_by-set, count_by-le-length}
 use Rattle.taint_flow.specs.Label.{Label, IsAtMost}
 use Rattle.taint_flow.specs.Flow.{Labelling}
 use Rattle.taint_flow.specs.Bits.{label_of, labelling_of, public_bits}
 use Rattle.taint_flow.specs.declared.label.Label.{Label as LabelBits}
 use Rattle.taint_flow.specs.Worklist.{State, label_at, is_queued, IsWhole, IsBelow, all_private, private_names, room_above, Rises}
 use Rattle.taint_flow.proofs.Bits.{at_most_left, at_most_right, union_at_most}
+use Rattle.taint_flow.proofs.Stacks.{one_if, times_on, flags_set, pushed_same, pushed_other, flag_set}
 use Rattle.taint_flow.proofs.Names.{names_most, names_rise}
 
 -- a label set in a list of labels
@@ -142,35 +143,17 @@ queues_kept s j q = record {
 }
 
 -- and with the item pushed
-abbrev one_if : Bool → ℕ
-one_if b = cond b 1 0
-
 once_pushed : (queued : List Bool) (stack : List ℕ) (j i : ℕ) → j < length queued → get_or queued j false ≡ false →
-    count_by (λ k. eqb k i) stack ≡ one_if (get_or queued i false) → (i ≡ j) ⊎ (i ≡ j → ⊥) →
-    count_by (λ k. eqb k i) (stack ++ j ∷ []) ≡ one_if (get_or (set queued j true) i false)
+    times_on stack i ≡ one_if (get_or queued i false) → (i ≡ j) ⊎ (i ≡ j → ⊥) →
+    times_on (stack ++ j ∷ []) i ≡ one_if (get_or (set queued j true) i false)
 once_pushed queued stack j i h f was (inl e) =
-    let more : count_by (λ k. eqb k i) (stack ++ j ∷ []) ≡ count_by (λ k. eqb k i) stack + one_if (eqb j i) =
-    sum_by_push (λ (k : ℕ). one_if (eqb k i)) stack j in
+    let more : times_on (stack ++ j ∷ []) i ≡ times_on stack i + 1 = pushed_same stack j i e in
     let none : one_if (get_or queued i false) ≡ 0 = ap one_if (ap (λ (n : ℕ). get_or queued n false) e ∙ f) in
-    let here : one_if (eqb j i) ≡ 1 = ap one_if (eq-eqb j i (sym e)) in
     let now : one_if (get_or (set queued j true) i false) ≡ 1 =
     ap one_if (ap (λ (n : ℕ). get_or (set queued j true) n false) e ∙ get_or-set_same queued j true false h) in
     omega arith
 once_pushed queued stack j i h f was (inr n) =
-    let more : count_by (λ k. eqb k i) (stack ++ j ∷ []) ≡ count_by (λ k. eqb k i) stack + one_if (eqb j i) =
-    sum_by_push (λ (k : ℕ). one_if (eqb k i)) stack j in
-    let other : one_if (eqb j i) ≡ 0 = ap one_if (ne_eqb j i (λ e. n (sym e))) in
-    let now : one_if (get_or (set queued j true) i false) ≡ one_if (get_or queued i false) =
-    ap one_if (get_or-set_other queued j i true false n) in
-    omega arith
-
-flag_set : (queued : List Bool) (j : ℕ) → j < length queued → get_or queued j false ≡ false →
-    count_by (λ b. b) (set queued j true) ≡ count_by (λ b. b) queued + 1
-flag_set queued j h f =
-    let e : count_by (λ b. b) (set queued j true) + one_if (get_or queued j false) ≡ count_by (λ b. b) queued + 1 =
-    sum_by-set one_if queued j true false h in
-    let none : one_if (get_or queued j false) ≡ 0 = ap one_if f in
-    omega arith
+    pushed_other stack j i n ∙ was ∙ sym (ap one_if (get_or-set_other queued j i true false n))
 
 whole_pushed : (s : State) (j count : ℕ) → is_queued s j ≡ false → j < count → IsWhole count s →
     IsWhole count (record { labels = s.labels; queued = set s.queued j true; stack = s.stack ++ j ∷ []; room = s.room })
@@ -183,8 +166,8 @@ whole_pushed s j count f small w =
       inside = All-push (λ k. k < count) s.stack j w.inside small;
       once = λ i. once_pushed s.queued s.stack j i within f (w.once i) (cases_eq i j);
       stacked = (let long : length (s.stack ++ j ∷ []) ≡ length s.stack + 1 = length_push s.stack j in
-          let more : count_by (λ b. b) (set s.queued j true) ≡ count_by (λ b. b) s.queued + 1 = flag_set s.queued j within f in
-          let was : length s.stack ≡ count_by (λ b. b) s.queued = w.stacked in
+          let more : flags_set (set s.queued j true) ≡ flags_set s.queued + 1 = flag_set s.queued j within f in
+          let was : length s.stack ≡ flags_set s.queued = w.stacked in
           omega arith);
     }
 
@@ -202,10 +185,10 @@ queues_pushed s j h f = record {
 pub room_left : (count : ℕ) (s : State) (j : ℕ) → IsWhole count s → j < count → is_queued s j ≡ false → length s.stack < s.room
 room_left count s j w small f =
     let within : j < length s.queued = let e = w.queued in omega arith in
-    let more : count_by (λ b. b) (set s.queued j true) ≡ count_by (λ b. b) s.queued + 1 = flag_set s.queued j within f in
-    let most : count_by (λ b. b) (set s.queued j true) ≤ length (set s.queued j true) = count_by-le-length (λ b. b) (set s.queued j true) in
+    let more : flags_set (set s.queued j true) ≡ flags_set s.queued + 1 = flag_set s.queued j within f in
+    let most : flags_set (set s.queued j true) ≤ length (set s.queued j true) = count_by-le-length (λ b. b) (set s.queued j true) in
     let same : length (set s.queued j true) ≡ length s.queued = length-set s.queued j true in
-    let stacked : length s.stack ≡ count_by (λ b. b) s.queued = w.stacked in
+    let stacked : length s.stack ≡ flags_set s.queued = w.stacked in
     let room : count ≤ s.room = w.room in
     let flags : length s.queued ≡ count = w.queued in
     omega arith

@@ -1,4 +1,5 @@
 pub mod Bits
+pub mod Stacks
 pub mod Names
 pub mod Joins
 pub mod Tables

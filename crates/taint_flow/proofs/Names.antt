@@ -18,6 +18,7 @@ use Rattle.taint_flow.specs.Label.{Label, flags, set, set_reg, set_where, is_wri
 use Rattle.taint_flow.specs.Flow.{MeetsFlow, left_behind, said_behind}
 use Rattle.taint_flow.specs.Bits.{label_of}
 use Rattle.taint_flow.specs.Worklist.{all_private, private_names, word_label}
+use Rattle.taint_flow.proofs.Stacks.{one_if, one_most}
 use Rattle.taint_flow.proofs.Bits.{at_most_left, entry_is, all_is}
 
 -- a name set in a label that has none above the flags
@@ -107,20 +108,13 @@ all_meets items = record {
 }
 
 -- the number of names
-one_most : (b : Bool) → cond b 1 0 ≤ 1
-one_most true = omega arith
-one_most false = omega arith
-
 pub names_most : (n : ℕ) (l : Label) → private_names n l ≤ n
 unfolding private_names
 names_most zero l = omega arith
 names_most (suc n) l =
     let rest : private_names n l ≤ n = names_most n l in
-    let last : cond (l n) 1 0 ≤ 1 = one_most (l n) in
+    let last : one_if (l n) ≤ 1 = one_most (l n) in
     omega arith
-
-abbrev one_if : Bool → ℕ
-one_if b = cond b 1 0
 
 agree_more : (n : ℕ) (l m : Label) → l n ≡ m n → ((k : ℕ) → k < n → l k ≡ m k) → (k : ℕ) → k < suc n → (k ≡ n) ⊎ (k ≡ n → ⊥) → l k ≡ m k
 agree_more n l m here below k h (inl e) = ap l e ∙ (here ∙ ap m (sym e))

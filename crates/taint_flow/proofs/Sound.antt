@@ -2,12 +2,11 @@
 use Rattle.std.proofs.Common.{subst, ◌≡◌, ℕ, suc, ◌+◌, ◌-◌, ◌*◌, ◌<◌, ◌≤◌, Bool, true, false, cond, eqb, List, [], ◌∷◌, ◌++◌, length, set, get_or, replicate, refl, sym, ◌∙◌, ap, arith, Option, Some, None, inl, inr, ◌⊎◌}
 use Rattle.std.specs.Prelude.{All, unwrap_or}
 use Rattle.std.specs.Option.{option_map}
-use Rattle.std.specs.List.{slice_get, sum_by, count_by}
+use Rattle.std.specs.List.{slice_get, sum_by}
 use Rattle.std.proofs.lemmas.Option.{same_Some, none-some, slice_get_within, cond_some}
-use Rattle.std.proofs.lemmas.Bool.{cases_eq, cases_lt, eq-eqb, ne_eqb, true≢false, cond-true, false_from_ne_true}
+use Rattle.std.proofs.lemmas.Bool.{cases_eq, cases_lt, true≢false, cond-true, false_from_ne_true}
 use Rattle.std.proofs.lemmas.List.{get_or-set_same, get_or-set_other, get_or-replicate, get_or_past, length-replicate, length-set, length_push, get_or_push, get_or_append_left}
 use Rattle.std.proofs.lemmas.List.Elements.{All-push}
-use Rattle.std.proofs.lemmas.List.Sums.{sum_by-set, sum_by_push}
 use Rattle.std.proofs.lemmas.List.Folds.{sum_by-replicate}
 use Rattle.cv_word.specs.MemoryMap.{code_base}
 use Rattle.code_sweep.specs.declared.item.Item.{Item}
@@ -20,6 +19,7 @@ use Rattle.taint_flow.specs.declared.label.Label.{Label as LabelBits}
 use Rattle.taint_flow.specs.Places.{NextStands, NumbersItems, goes_on}
 use Rattle.taint_flow.specs.Worklist.{State, label_at, is_queued, IsWhole, IsBelow, Rises, TakesIn, StaysBelow, all_private, private_names, room_above, work_left, HandsOn, HasWords, StaysLeast, IsFresh, IsSound, behind_word, word_label}
 use Rattle.std.proofs.lemmas.Nat.Bits.{bit_at-zero}
+use Rattle.taint_flow.proofs.Stacks.{one_if, one_most, times_on, flags_set, pushed_same, pushed_other, flag_cleared}
 use Rattle.taint_flow.proofs.Joins.{read_label}
 use Rattle.taint_flow.proofs.Names.{left_behind_within, all_meets, no_names}
 use Rattle.taint_flow.proofs.Monotone.{left_behind_up}
@@ -136,53 +136,30 @@ rest_inside count s i rest w e k d h =
     let small : get_or s.stack k d < count = w.inside k d (omega arith) in
     omega arith
 
--- one, where a flag is set
-abbrev one_if : Bool → ℕ
-one_if b = cond b 1 0
-
-one_most : (b : Bool) → one_if b ≤ 1
-one_most true = omega arith
-one_most false = omega arith
-
--- how often a number stands on the stack before the top is taken off
-pushed_once : (s : State) (i k : ℕ) (rest : List ℕ) → s.stack ≡ rest ++ i ∷ [] →
-    count_by (λ n. eqb n k) s.stack ≡ count_by (λ n. eqb n k) rest + one_if (eqb i k)
-pushed_once s i k rest e =
-    ap (λ (xs : List ℕ). count_by (λ n. eqb n k) xs) e ∙ sum_by_push (λ (n : ℕ). one_if (eqb n k)) rest i
-
 -- the top is queued, and stands nowhere below
 top_once : (count : ℕ) (s : State) (i : ℕ) (rest : List ℕ) → IsWhole count s → s.stack ≡ rest ++ i ∷ [] →
-    (count_by (λ n. eqb n i) rest ≡ 0) × (one_if (is_queued s i) ≡ 1)
+    (times_on rest i ≡ 0) × (one_if (is_queued s i) ≡ 1)
 top_once count s i rest w e =
-    let more : count_by (λ n. eqb n i) s.stack ≡ count_by (λ n. eqb n i) rest + one_if (eqb i i) = pushed_once s i i rest e in
-    let here : one_if (eqb i i) ≡ 1 = ap one_if (eq-eqb i i refl) in
-    let once : count_by (λ n. eqb n i) s.stack ≡ one_if (is_queued s i) = w.once i in
+    let more : times_on s.stack i ≡ times_on rest i + 1 = ap (λ (xs : List ℕ). times_on xs i) e ∙ pushed_same rest i i refl in
+    let once : times_on s.stack i ≡ one_if (is_queued s i) = w.once i in
     let most : one_if (is_queued s i) ≤ 1 = one_most (is_queued s i) in
     (omega arith, omega arith)
 
 once_popped : (count : ℕ) (s : State) (i k : ℕ) (rest : List ℕ) → IsWhole count s → s.stack ≡ rest ++ i ∷ [] → i < length s.queued →
-    (k ≡ i) ⊎ (k ≡ i → ⊥) → count_by (λ n. eqb n k) rest ≡ one_if (get_or (set s.queued i false) k false)
+    (k ≡ i) ⊎ (k ≡ i → ⊥) → times_on rest k ≡ one_if (get_or (set s.queued i false) k false)
 once_popped count s i k rest w e small (inl same) =
-    let none : count_by (λ n. eqb n k) rest ≡ 0 = ap (λ (m : ℕ). count_by (λ n. eqb n m) rest) same ∙ (top_once count s i rest w e).0 in
-    let now : one_if (get_or (set s.queued i false) k false) ≡ 0 =
-    ap one_if (ap (λ (n : ℕ). get_or (set s.queued i false) n false) same ∙ get_or-set_same s.queued i false false small) in
-    none ∙ sym now
+    ap (λ (n : ℕ). times_on rest n) same ∙ (top_once count s i rest w e).0 ∙
+    sym (ap one_if (ap (λ (n : ℕ). get_or (set s.queued i false) n false) same ∙ get_or-set_same s.queued i false false small))
 once_popped count s i k rest w e small (inr n) =
-    let more : count_by (λ m. eqb m k) s.stack ≡ count_by (λ m. eqb m k) rest + one_if (eqb i k) = pushed_once s i k rest e in
-    let other : one_if (eqb i k) ≡ 0 = ap one_if (ne_eqb i k (λ same. n (sym same))) in
-    let once : count_by (λ m. eqb m k) s.stack ≡ one_if (is_queued s k) = w.once k in
-    let now : one_if (get_or (set s.queued i false) k false) ≡ one_if (is_queued s k) =
-    ap one_if (get_or-set_other s.queued i k false false n) in
-    omega arith
+    sym (ap (λ (xs : List ℕ). times_on xs k) e ∙ pushed_other rest i k n) ∙ w.once k ∙
+    sym (ap one_if (get_or-set_other s.queued i k false false n))
 
 stacked_popped : (count : ℕ) (s : State) (i : ℕ) (rest : List ℕ) → IsWhole count s → s.stack ≡ rest ++ i ∷ [] → i < length s.queued →
-    length rest ≡ count_by (λ b. b) (set s.queued i false)
+    length rest ≡ flags_set (set s.queued i false)
 stacked_popped count s i rest w e small =
     let long : length s.stack ≡ length rest + 1 = ap length e ∙ length_push rest i in
-    let was : length s.stack ≡ count_by (λ b. b) s.queued = w.stacked in
-    let set : count_by (λ b. b) (set s.queued i false) + one_if (get_or s.queued i false) ≡ count_by (λ b. b) s.queued + 0 =
-    sum_by-set one_if s.queued i false false small in
-    let top : one_if (is_queued s i) ≡ 1 = (top_once count s i rest w e).1 in
+    let was : length s.stack ≡ flags_set s.queued = w.stacked in
+    let less : flags_set (set s.queued i false) + 1 ≡ flags_set s.queued = flag_cleared s.queued i small (top_once count s i rest w e).1 in
     omega arith
 
 pub whole_popped : (count : ℕ) (s : State) (i : ℕ) (rest : List ℕ) (room : ℕ) → IsWhole count s → s.stack ≡ rest ++ i ∷ [] → room ≡ s.room →
@@ -248,40 +225,25 @@ labels_public n i k (inr h) =
 -- the stack has the highest numbers, so many of them, each once
 pub record Highest (count i : ℕ) (stack : List ℕ) : Type 0 where
   pub inside : All (λ k. k < count) stack
-  pub there : (k : ℕ) → count ≤ k + i → k < count → count_by (λ n. eqb n k) stack ≡ 1
-  pub absent : (k : ℕ) → k + i < count → count_by (λ n. eqb n k) stack ≡ 0
-  pub outside : (k : ℕ) → count ≤ k → count_by (λ n. eqb n k) stack ≡ 0
+  pub there : (k : ℕ) → count ≤ k + i → k < count → times_on stack k ≡ 1
+  pub absent : (k : ℕ) → k + i < count → times_on stack k ≡ 0
+  pub past : (k : ℕ) → count ≤ k → times_on stack k ≡ 0
   pub long : length stack ≡ i
 
--- how often a number stands there when another one is pushed
-count_other : (stack : List ℕ) (j k : ℕ) → (k ≡ j → ⊥) → count_by (λ n. eqb n k) (stack ++ j ∷ []) ≡ count_by (λ n. eqb n k) stack
-count_other stack j k n =
-    let more : count_by (λ m. eqb m k) (stack ++ j ∷ []) ≡ count_by (λ m. eqb m k) stack + one_if (eqb j k) =
-    sum_by_push (λ (m : ℕ). one_if (eqb m k)) stack j in
-    let other : one_if (eqb j k) ≡ 0 = ap one_if (ne_eqb j k (λ same. n (sym same))) in
-    omega arith
-
-count_same : (stack : List ℕ) (j k : ℕ) → k ≡ j → count_by (λ n. eqb n k) (stack ++ j ∷ []) ≡ count_by (λ n. eqb n k) stack + 1
-count_same stack j k e =
-    let more : count_by (λ m. eqb m k) (stack ++ j ∷ []) ≡ count_by (λ m. eqb m k) stack + one_if (eqb j k) =
-    sum_by_push (λ (m : ℕ). one_if (eqb m k)) stack j in
-    let here : one_if (eqb j k) ≡ 1 = ap one_if (eq-eqb j k (sym e)) in
-    omega arith
-
 there_more : (count i k : ℕ) (stack : List ℕ) → i < count → Highest count i stack → count ≤ k + (i + 1) → k < count →
-    (k ≡ count - 1 - i) ⊎ (k ≡ count - 1 - i → ⊥) → count_by (λ n. eqb n k) (stack ++ (count - 1 - i) ∷ []) ≡ 1
+    (k ≡ count - 1 - i) ⊎ (k ≡ count - 1 - i → ⊥) → times_on (stack ++ (count - 1 - i) ∷ []) k ≡ 1
 there_more count i k stack h s a b (inl e) =
-    let more : count_by (λ n. eqb n k) (stack ++ (count - 1 - i) ∷ []) ≡ count_by (λ n. eqb n k) stack + 1 = count_same stack (count - 1 - i) k e in
-    let none : count_by (λ n. eqb n k) stack ≡ 0 = s.absent k (omega arith) in
+    let more : times_on (stack ++ (count - 1 - i) ∷ []) k ≡ times_on stack k + 1 = pushed_same stack (count - 1 - i) k e in
+    let none : times_on stack k ≡ 0 = s.absent k (omega arith) in
     omega arith
-there_more count i k stack h s a b (inr n) = count_other stack (count - 1 - i) k n ∙ s.there k (omega arith) b
+there_more count i k stack h s a b (inr n) = pushed_other stack (count - 1 - i) k n ∙ s.there k (omega arith) b
 
 pub highest_more : (count i : ℕ) (stack : List ℕ) → i < count → Highest count i stack → Highest count (i + 1) (stack ++ (count - 1 - i) ∷ [])
 highest_more count i stack h s = record {
   inside = All-push (λ k. k < count) stack (count - 1 - i) s.inside (omega arith);
   there = λ k a b. there_more count i k stack h s a b (cases_eq k (count - 1 - i));
-  absent = λ k a. count_other stack (count - 1 - i) k (λ e. absurd (omega arith)) ∙ s.absent k (omega arith);
-  outside = λ k a. count_other stack (count - 1 - i) k (λ e. absurd (omega arith)) ∙ s.outside k a;
+  absent = λ k a. pushed_other stack (count - 1 - i) k (λ e. absurd (omega arith)) ∙ s.absent k (omega arith);
+  past = λ k a. pushed_other stack (count - 1 - i) k (λ e. absurd (omega arith)) ∙ s.past k a;
   long = (let more : length (stack ++ (count - 1 - i) ∷ []) ≡ length stack + 1 = length_push stack (count - 1 - i) in
       let was : length stack ≡ i = s.long in
       omega arith);
@@ -292,16 +254,16 @@ highest_none count = record {
   inside = λ k d h. absurd (omega arith);
   there = λ k a b. absurd (omega arith);
   absent = λ k a. refl;
-  outside = λ k a. refl;
+  past = λ k a. refl;
   long = refl;
 }
 
 fresh_once : (count k : ℕ) (stack : List ℕ) → Highest count count stack → (k < count) ⊎ (count ≤ k) →
-    count_by (λ n. eqb n k) stack ≡ one_if (get_or (replicate count true) k false)
+    times_on stack k ≡ one_if (get_or (replicate count true) k false)
 fresh_once count k stack h (inl small) =
     h.there k (omega arith) small ∙ sym (ap one_if (get_or-replicate count k true false small))
 fresh_once count k stack h (inr past) =
-    h.outside k past ∙
+    h.past k past ∙
     sym (ap one_if (get_or_past (replicate count true) k false (let e : length (replicate count true) ≡ count = length-replicate count true in omega arith)))
 
 fresh_at : (count room : ℕ) (stack : List ℕ) → Highest count count stack → count ≤ room →
@@ -313,7 +275,7 @@ fresh_at count room stack h had = record {
     room = had;
     inside = h.inside;
     once = λ k. fresh_once count k stack h (cases_lt k count);
-    stacked = (let all : count_by (λ b. b) (replicate count true) ≡ count * 1 = sum_by-replicate one_if count true in
+    stacked = (let all : flags_set (replicate count true) ≡ count * 1 = sum_by-replicate one_if count true in
         let long : length stack ≡ count = h.long in
         omega arith);
   };
@@ -424,8 +386,8 @@ sound_from_fresh items s t fresh r words least = record {
 unqueued : (items : List Placed) (s : State) → IsSound items s → s.stack ≡ [] → (i : ℕ) → is_queued s i ≡ false
 unqueued items s sound e i =
     false_from_ne_true (is_queued s i) (λ q.
-    let once : count_by (λ n. eqb n i) s.stack ≡ one_if (is_queued s i) = sound.whole.once i in
-    let none : count_by (λ n. eqb n i) s.stack ≡ 0 = ap (λ (xs : List ℕ). count_by (λ n. eqb n i) xs) e in
+    let once : times_on s.stack i ≡ one_if (is_queued s i) = sound.whole.once i in
+    let none : times_on s.stack i ≡ 0 = ap (λ (xs : List ℕ). times_on xs i) e in
     let here : one_if (is_queued s i) ≡ 1 = ap one_if q in
     omega arith)
 
