@@ -8,3 +8,4 @@ mod Steps
 mod Flows
 mod Forms
 mod Ends
+mod Listings

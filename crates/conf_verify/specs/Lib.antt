@@ -22,3 +22,4 @@ pub mod Verdict
 pub mod Answer
 pub mod Search
 pub mod Steps
+pub mod Listed

@@ -10,6 +10,7 @@ ghost use Rattle.conf_verify.specs.Rules.{BreaksShape, call_words, other_items};
 ghost use Rattle.conf_verify.specs.Steps.{IsCodeRefusal, HoldsBelow};
 ghost use Rattle.image_form.specs.Image.{IsGood};
 ghost use Rattle.conf_verify.specs.Verdict.{IsImage, IsAccepted, IsAcceptedImage, HasListing};
+ghost use Rattle.conf_verify.specs.Listed.{IsByListingRule};
 ghost use Rattle.conf_verify.specs.Answer.{Checked, image_of, checked_of, HasCounts, IsRefusal};
 
 use crate::calls::{bad_call, bad_result, bad_return};
@@ -106,9 +107,10 @@ pub fn verify<'a>(alloc: Global, bytes: &'a [u8]) -> Result<Verified<'a>, Verify
 }
 
 /// The parts of an image of one entry, or the least place where the form is wrong.
-fn image_at<'a>(bytes: &'a [u8]) -> Result<Parts<'a>, VerifyError>
+pub(crate) fn image_at<'a>(bytes: &'a [u8]) -> Result<Parts<'a>, VerifyError>
     ensures image { IfOk result (λ parts. IsImage bytes.now (image_of parts)) }
     ensures refused { IfErr result (λ error. IsRefusal bytes.now error) }
+    ensures rule { IfErr result (λ error. IsByListingRule error) }
 {
     match read_image(bytes) {
         Ok(parts) => {
@@ -173,11 +175,12 @@ fn count_items(items: &[Placed]) -> Counts
 }
 
 /// V2: the chain of items.
-fn listing_of<'a>(alloc: Global, parts: &Parts<'a>) -> Result<Listing<'a>, VerifyError>
+pub(crate) fn listing_of<'a>(alloc: Global, parts: &Parts<'a>) -> Result<Listing<'a>, VerifyError>
     requires { IsGood (image_of parts.now) }
     ensures code { IfOk result (λ l. l.code.now ≡ (image_of parts.now).code) }
     ensures listing { IfOk result (λ l. HasListing (image_of parts.now) l.items.items) }
     ensures refused { IfErr result (λ error. IsCodeRefusal (image_of parts.now) error) }
+    ensures rule { IfErr result (λ error. IsByListingRule error) }
 {
     match sweep(alloc, parts.code, parts.prefix) {
         Ok(listing) => Ok(listing),
