@@ -1,5 +1,5 @@
 -- The answers of the check's steps, from what its searches answer.
-use Rattle.std.proofs.Common.{◌≡◌, ℕ, zero, suc, ◌+◌, ◌-◌, ◌<◌, ◌≤◌, Bool, true, false, List, [], ◌∷◌, length, get_or, slice_index, Option, Some, refl, sym, ◌∙◌, ap, subst, arith, slice_get}
+use Rattle.std.proofs.Common.{◌≡◌, ℕ, ◌+◌, ◌<◌, ◌≤◌, List, length, get_or, slice_index, Some, sym, ◌∙◌, ap, subst, arith, slice_get}
 use Rattle.std.proofs.lemmas.Option.{slice_get-get_or, get_or_from_slice_get}
 use Rattle.cv_word.specs.MemoryMap.{code_base}
 use Rattle.magic_words.specs.MagicWords.{AreOccurrences}
@@ -17,12 +17,12 @@ use Rattle.conf_verify.specs.declared.verdict.VerifyError.{VerifyError}
 use Rattle.conf_verify.specs.declared.verdict.VerifyError.TheVariants.{NoMemory, Refused}
 use Rattle.conf_verify.specs.Rules.{BreaksShape, BreaksPrefix, FollowsCallWord, rule_number}
 use Rattle.conf_verify.specs.Search.{BadOccurrence, BadLabel}
-use Rattle.conf_verify.specs.Verdict.{IsImage, HasListing, IsAcceptedImage, IsVerdict}
+use Rattle.conf_verify.specs.Verdict.{IsImage, HasListing, IsAcceptedImage}
 use Rattle.conf_verify.specs.Answer.{IsRefusal}
 use Rattle.conf_verify.specs.Steps.{IsCodeVerdict, IsCodeRefusal, HoldsBelow}
 use Rattle.conf_verify.proofs.Told.{told_code}
 use Rattle.conf_verify.proofs.Steps.{told_prefix, no_prefix, told_entry}
-use Rattle.conf_verify.proofs.Flows.{IsLeastBroken, told_flow, accepts}
+use Rattle.conf_verify.proofs.Flows.{told_flow, accepts}
 
 pub refusal : (image : Image) (error : VerifyError) (rule : Rule) (at : ℕ) → error ≡ Refused rule at → IsCodeVerdict image rule at → IsCodeRefusal image error
 refusal image error rule at is v = subst (λ (e : VerifyError). IsCodeRefusal image e) (sym is) v

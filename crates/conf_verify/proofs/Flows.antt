@@ -1,9 +1,9 @@
 -- From the first item that breaks a rule under the least labels to the verdict, and to acceptance.
-use Rattle.std.proofs.Common.{◌≡◌, ◌≢◌, ℕ, zero, suc, ◌+◌, ◌-◌, ◌<◌, ◌≤◌, Bool, true, false, ◌||◌, ◌&&◌, not, eqb, List, [], ◌∷◌, length, Option, Some, None, refl, sym, ◌∙◌, ap, subst, arith, ◌⊎◌, inl, inr, slice_get}
+use Rattle.std.proofs.Common.{◌≡◌, ◌≢◌, ℕ, ◌+◌, ◌<◌, Bool, true, false, ◌||◌, ◌&&◌, not, eqb, List, length, Option, Some, None, refl, sym, ◌∙◌, ap, subst, arith, ◌⊎◌, inl, inr, slice_get}
 use Rattle.std.proofs.lemmas.Bool.{cases_order, true≢false, and_parts, and_from}
 use Rattle.std.proofs.lemmas.Option.{slice_get_within}
 use Rattle.cv_word.specs.MemoryMap.{code_base}
-use Rattle.x64_decode.specs.declared.instr.Reg.TheVariants.{Rax, Rcx, Rdx, Rsp, Rsi, Rdi}
+use Rattle.x64_decode.specs.declared.instr.Reg.TheVariants.{Rax, Rcx, Rdx, Rsi, Rdi}
 use Rattle.x64_decode.specs.declared.instr.Seg.{Seg}
 use Rattle.x64_decode.specs.declared.instr.Seg.TheVariants.{Fs, Gs}
 use Rattle.x64_decode.specs.declared.instr.Mem.{Mem}
@@ -12,17 +12,16 @@ use Rattle.x64_decode.specs.declared.instr.Instr.TheVariants.{Store, Jcc, Idiv}
 use Rattle.code_sweep.specs.declared.item.Item.{Item}
 use Rattle.code_sweep.specs.declared.item.Item.TheVariants.{Call, Ret, Plain, ReturnUnit, CallUnit}
 use Rattle.code_sweep.specs.declared.item.Placed.{Placed}
-use Rattle.code_sweep.specs.Listing.{BreaksAt}
-use Rattle.taint_flow.specs.Label.{Label, IsAtMost, taint, flags, left_by}
+use Rattle.taint_flow.specs.Label.{Label, IsAtMost, taint, flags}
 use Rattle.taint_flow.specs.Flow.{Labelling, MeetsFlow, memory_of, base_is_private, shows_private, has_private_address, instruction_stores_private, stores_private, instruction_branches_on_private, branches_on_private, instruction_divides_private, divides_private, leaves_rsp_private, passes_private, returns_private}
 use Rattle.taint_flow.specs.Calls.{callee}
 use Rattle.std.specs.Int.{bit_at}
 use Rattle.taint_flow.proofs.Monotone.{left_by_up}
 use Rattle.image_form.specs.Image.{Image}
 use Rattle.conf_verify.specs.declared.rule.Rule.{Rule}
-use Rattle.conf_verify.specs.declared.rule.Rule.TheVariants.{V1, V2, V3, V4, V5, V6, V7, V8, V9, V10, V11, V12, V13, V14, V15, V16}
+use Rattle.conf_verify.specs.declared.rule.Rule.TheVariants.{V2, V10, V11, V12, V13, V14, V15, V16}
 use Rattle.conf_verify.specs.Rules.{BreaksShape, BreaksFlow, BreaksUnder, item_breaks, is_flow_rule, rule_number}
-use Rattle.conf_verify.specs.Search.{BadLabel, IsFirstBroken}
+use Rattle.conf_verify.specs.Search.{BadLabel}
 use Rattle.conf_verify.specs.Verdict.{HasListing, Precedes, IsBefore, IsAcceptedImage}
 use Rattle.conf_verify.specs.Steps.{IsCodeVerdict}
 use Rattle.conf_verify.proofs.One.{one_chain, no_break}

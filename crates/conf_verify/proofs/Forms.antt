@@ -1,13 +1,13 @@
 -- Where the form of the bytes is wrong.
-use Rattle.std.proofs.Common.{◌≡◌, ◌≢◌, ℕ, zero, suc, ◌+◌, ◌<◌, ◌≤◌, List, length, get_or, slice_index, refl, sym, ◌∙◌, ap, subst, arith, ◌⊎◌, inl, inr}
-use Rattle.std.proofs.lemmas.Bool.{cases_lt, cases_order}
+use Rattle.std.proofs.Common.{◌≡◌, ◌≢◌, ℕ, ◌<◌, ◌≤◌, List, length, get_or, slice_index, refl, sym, ◌∙◌, ap, subst, arith, ◌⊎◌, inl, inr}
+use Rattle.std.proofs.lemmas.Bool.{cases_lt}
 use Rattle.image_form.specs.Image.{Image, IsGood, spelling}
 use Rattle.image_form.specs.Table.{IsWrongAt, IsImageFile, IsFault}
 use Rattle.image_form.proofs.Laws.{image_has_no_wrong}
 use Rattle.conf_verify.specs.declared.rule.Rule.TheVariants.{V1}
 use Rattle.conf_verify.specs.declared.verdict.VerifyError.{VerifyError}
 use Rattle.conf_verify.specs.declared.verdict.VerifyError.TheVariants.{Refused}
-use Rattle.conf_verify.specs.Verdict.{IsWrongForm, IsVerdict}
+use Rattle.conf_verify.specs.Verdict.{IsWrongForm}
 use Rattle.conf_verify.specs.Answer.{IsRefusal}
 use Rattle.conf_verify.proofs.Told.{told_form}
 

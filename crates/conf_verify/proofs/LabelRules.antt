@@ -1,5 +1,5 @@
 -- The rules on labels at one item of a listing.
-use Rattle.std.proofs.Common.{◌≡◌, ℕ, ◌<◌, Bool, true, false, List, length, get_or, Option, Some, refl, sym, ◌∙◌, ap, subst, slice_get}
+use Rattle.std.proofs.Common.{◌≡◌, ℕ, ◌<◌, true, false, List, length, get_or, Option, Some, sym, ◌∙◌, ap, slice_get}
 use Rattle.std.proofs.lemmas.Bool.{true≢false}
 use Rattle.std.proofs.lemmas.Option.{get_or_from_slice_get, slice_get-get_or}
 use Rattle.code_sweep.specs.declared.item.Placed.{Placed}
@@ -7,7 +7,7 @@ use Rattle.taint_flow.specs.Label.{Label}
 use Rattle.taint_flow.specs.Bits.{label_of, labelling_of, public_bits}
 use Rattle.taint_flow.specs.declared.label.Label.{Label as LabelBits}
 use Rattle.conf_verify.specs.declared.rule.Rule.{Rule}
-use Rattle.conf_verify.specs.Rules.{item_breaks, rule_number}
+use Rattle.conf_verify.specs.Rules.{item_breaks}
 use Rattle.taint_flow.specs.Calls.{callee}
 use Rattle.conf_verify.specs.Search.{BadLabel}
 

@@ -1,5 +1,5 @@
 -- A code has one listing, and accepted bytes have no verdict.
-use Rattle.std.proofs.Common.{◌≡◌, ◌≢◌, ℕ, suc, ◌+◌, ◌-◌, ◌<◌, ◌≤◌, Bool, true, false, List, [], ◌∷◌, ◌++◌, length, take, drop, get_or, Option, Some, None, refl, sym, ◌∙◌, ap, subst, arith, ◌⊎◌, inl, inr}
+use Rattle.std.proofs.Common.{◌≡◌, ℕ, ◌+◌, ◌-◌, ◌<◌, ◌≤◌, true, false, List, [], ◌∷◌, length, get_or, Option, Some, refl, sym, ◌∙◌, ap, subst, arith, ◌⊎◌, inl, inr}
 use Rattle.x64_decode.specs.Spelling.{number, rex, between}
 use Rattle.x64_decode.specs.Reading.{reg_of}
 use Rattle.x64_decode.specs.declared.instr.Reg.{Reg}
@@ -10,14 +10,13 @@ use Rattle.code_sweep.specs.declared.item.Item.{Item}
 use Rattle.code_sweep.specs.declared.item.Item.TheVariants.{Call, Ret, Plain, ReturnUnit, CallUnit}
 use Rattle.code_sweep.specs.declared.item.Placed.{Placed}
 use Rattle.code_sweep.specs.Listing.{item_bytes, IsChain, StandsAt, BreaksAt}
-use Rattle.taint_flow.specs.Flow.{Labelling, MeetsFlow}
-use Rattle.image_form.specs.Image.{Image, IsGood, spelling}
-use Rattle.image_form.specs.Table.{IsWrongAt, IsImageFile}
+use Rattle.image_form.specs.Image.{Image, spelling}
+use Rattle.image_form.specs.Table.{IsImageFile}
 use Rattle.image_form.proofs.Laws.{spelling_is_one, image_has_no_wrong, IsImageFile-spelling}
 use Rattle.conf_verify.specs.declared.rule.Rule.{Rule}
 use Rattle.conf_verify.specs.declared.rule.Rule.TheVariants.{V1, V2, V3, V4, V5, V6, V7, V8, V9, V10, V11, V12, V13, V14, V15, V16}
-use Rattle.conf_verify.specs.Rules.{BreaksShape, BreaksFlow, BreaksUnder, is_flow_rule}
-use Rattle.conf_verify.specs.Verdict.{IsImage, IsWrongForm, HasListing, BreaksCode, Breaks, IsAcceptedImage, IsAccepted, IsVerdict}
+use Rattle.conf_verify.specs.Rules.{BreaksShape, BreaksFlow, is_flow_rule}
+use Rattle.conf_verify.specs.Verdict.{IsImage, IsWrongForm, HasListing, Breaks, IsAcceptedImage}
 
 -- ---- one item at a place
 

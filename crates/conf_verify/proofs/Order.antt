@@ -1,10 +1,10 @@
 -- One verdict: what is told first is one rule at one place, and accepted bytes have none.
-use Rattle.std.proofs.Common.{◌≡◌, ℕ, suc, ◌+◌, ◌<◌, ◌≤◌, Bool, true, false, List, refl, sym, ◌∙◌, ap, subst, arith, ◌⊎◌, inl, inr, cond, eqb}
-use Rattle.std.proofs.lemmas.Bool.{cases_order, true≢false}
+use Rattle.std.proofs.Common.{◌≡◌, ℕ, Bool, true, false, List, refl, sym, ◌∙◌, ap, inl, inr, cond, eqb}
+use Rattle.std.proofs.lemmas.Bool.{cases_order}
 use Rattle.conf_verify.specs.declared.rule.Rule.{Rule}
 use Rattle.conf_verify.specs.declared.rule.Rule.TheVariants.{V1, V2, V3, V4, V5, V6, V7, V8, V9, V10, V11, V12, V13, V14, V15, V16}
 use Rattle.conf_verify.specs.Rules.{is_flow_rule, rule_number}
-use Rattle.conf_verify.specs.Verdict.{Precedes, IsBefore, IsVerdict}
+use Rattle.conf_verify.specs.Verdict.{Precedes, IsVerdict}
 
 -- of two, one is told first, or they are the same
 data Order (f g : Bool) (n a m b : ℕ) : Type 0 where

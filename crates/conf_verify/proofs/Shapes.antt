@@ -1,10 +1,9 @@
 -- Items by their places, and what the searches over a listing found.
-use Rattle.std.proofs.Common.{◌≡◌, ◌≢◌, ℕ, suc, ◌+◌, ◌-◌, ◌<◌, ◌≤◌, Bool, true, false, List, length, get_or, Option, Some, None, refl, sym, ◌∙◌, ap, subst, arith, slice_get, not}
+use Rattle.std.proofs.Common.{◌≡◌, ℕ, ◌-◌, ◌<◌, ◌≤◌, true, false, List, length, get_or, Option, Some, None, sym, ◌∙◌, ap, subst, arith, slice_get, not}
 use Rattle.std.proofs.lemmas.Bool.{true≢false, not-true, not-false}
 use Rattle.std.proofs.lemmas.Option.{slice_get_within, get_or_from_slice_get, slice_get-get_or}
 use Rattle.cv_word.specs.MemoryMap.{code_base}
 use Rattle.code_sweep.specs.declared.item.Placed.{Placed}
-use Rattle.taint_flow.specs.Flow.{address}
 use Rattle.taint_flow.specs.Places.{NumbersItems}
 use Rattle.conf_verify.specs.Rules.{is_word, is_call_word, procedure_of, IsGoodTarget, FollowsCallWord}
 use Rattle.conf_verify.specs.Search.{BeginsAt, AreProcedures, HasWord}

@@ -1,26 +1,23 @@
 -- From what each search over a listing found to the verdict on the code, rule by rule.
-use Rattle.std.proofs.Common.{◌≡◌, ◌≢◌, ℕ, zero, suc, ◌+◌, ◌-◌, ◌<◌, ◌≤◌, Bool, true, false, List, [], ◌∷◌, length, take, drop, get_or, slice_index, Option, Some, None, refl, sym, ◌∙◌, ap, subst, arith, ◌⊎◌, inl, inr, slice_get}
+use Rattle.std.proofs.Common.{◌≡◌, ℕ, zero, suc, ◌+◌, ◌<◌, true, false, List, [], ◌∷◌, length, take, get_or, slice_index, Option, Some, None, refl, sym, ◌∙◌, ap, subst, arith, ◌⊎◌, inl, inr, slice_get}
 use Rattle.std.proofs.lemmas.Bool.{cases_order, cases_lt, cases_Bool, true≢false}
 use Rattle.std.proofs.lemmas.List.{drop_all}
 use Rattle.std.proofs.lemmas.Option.{slice_get_within, slice_get-get_or}
 use Rattle.cv_word.specs.MemoryMap.{code_base}
-use Rattle.x64_decode.specs.declared.instr.Instr.{Instr}
 use Rattle.x64_decode.specs.declared.instr.Instr.TheVariants as instr
 use Rattle.magic_words.specs.MagicWords.{IsOccurrence, AreOccurrences}
 use Rattle.code_sweep.specs.declared.item.Item.{Item}
 use Rattle.code_sweep.specs.declared.item.Item.TheVariants.{Call, Ret, Plain, ReturnUnit, CallUnit}
 use Rattle.code_sweep.specs.declared.item.Placed.{Placed}
 use Rattle.code_sweep.specs.Listing.{IsChain}
-use Rattle.taint_flow.specs.Label.{Label, IsAtMost}
-use Rattle.taint_flow.specs.Flow.{address, jump_target, Labelling, MeetsFlow, falls_through}
+use Rattle.taint_flow.specs.Flow.{jump_target}
 use Rattle.taint_flow.specs.Places.{goes_on, NextStands}
 use Rattle.image_form.specs.Image.{Image, IsGood}
 use Rattle.conf_verify.specs.declared.rule.Rule.{Rule}
 use Rattle.conf_verify.specs.declared.rule.Rule.TheVariants.{V1, V2, V3, V4, V5, V6, V7, V8, V9, V10, V11, V12, V13, V14, V15, V16}
-use Rattle.conf_verify.specs.Rules.{BreaksShape, BreaksFlow, BreaksUnder, BreaksEnds, BreaksPrefix, BreaksReturns, BreaksJumps, BreaksCalls, BreaksResults, BreaksEntries, HasReturnWord, fits_result, FollowsCall, FollowsCallWord, IsGoodTarget, IsLast, procedure_bits, is_word, is_call_word, may_end, is_flow_rule, rule_number}
+use Rattle.conf_verify.specs.Rules.{BreaksShape, BreaksEnds, BreaksPrefix, BreaksReturns, BreaksJumps, BreaksCalls, BreaksResults, BreaksEntries, HasReturnWord, fits_result, FollowsCall, FollowsCallWord, IsLast, is_call_word, may_end, is_flow_rule, rule_number}
 use Rattle.taint_flow.specs.Calls.{callee, call_target, is_call}
-use Rattle.std.specs.Int.{bit_at}
-use Rattle.conf_verify.specs.Search.{BadEnd, BadReturn, BadJump, BadCall, BadResult, BadOccurrence, HasWord}
+use Rattle.conf_verify.specs.Search.{BadEnd, BadReturn, BadJump, BadCall, BadResult, BadOccurrence}
 use Rattle.conf_verify.specs.Verdict.{HasListing}
 use Rattle.conf_verify.specs.Steps.{IsCodeVerdict, HoldsBelow}
 use Rattle.conf_verify.proofs.Order.{same_number}

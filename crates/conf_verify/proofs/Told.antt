@@ -1,11 +1,9 @@
 -- From what breaks a rule to the verdict that is told.
-use Rattle.std.proofs.Common.{◌≡◌, ◌≢◌, ℕ, zero, suc, ◌+◌, ◌-◌, ◌<◌, ◌≤◌, Bool, true, false, List, [], ◌∷◌, length, Option, Some, None, refl, sym, ◌∙◌, ap, subst, arith, ◌⊎◌, inl, inr, slice_get}
-use Rattle.std.proofs.lemmas.Bool.{cases_order, true≢false}
+use Rattle.std.proofs.Common.{◌≡◌, ◌≢◌, ℕ, ◌+◌, ◌<◌, Bool, true, false, List, refl, sym, subst, arith, ◌⊎◌, inl, inr}
+use Rattle.std.proofs.lemmas.Bool.{true≢false}
 use Rattle.cv_word.specs.MemoryMap.{code_base}
-use Rattle.code_sweep.specs.declared.item.Item.{Item}
 use Rattle.code_sweep.specs.declared.item.Placed.{Placed}
-use Rattle.code_sweep.specs.Listing.{IsChain, StandsAt, BreaksAt}
-use Rattle.taint_flow.specs.Flow.{Labelling, MeetsFlow}
+use Rattle.code_sweep.specs.Listing.{BreaksAt}
 use Rattle.image_form.specs.Image.{Image}
 use Rattle.conf_verify.specs.declared.rule.Rule.{Rule}
 use Rattle.conf_verify.specs.declared.rule.Rule.TheVariants.{V1, V2, V3, V4, V5, V6, V7, V8, V9, V10, V11, V12, V13, V14, V15, V16}
@@ -13,7 +11,7 @@ use Rattle.conf_verify.specs.Rules.{BreaksShape, BreaksFlow, is_flow_rule, rule_
 use Rattle.conf_verify.specs.Verdict.{IsImage, IsWrongForm, HasListing, BreaksCode, Breaks, Precedes, IsBefore, IsVerdict}
 use Rattle.conf_verify.specs.Steps.{IsCodeVerdict, HoldsBelow}
 use Rattle.conf_verify.proofs.Order.{same_number}
-use Rattle.conf_verify.proofs.One.{one_image, one_chain, one_break, no_break, form_is_right, ByListing}
+use Rattle.conf_verify.proofs.One.{one_image, one_chain, one_break, no_break, form_is_right}
 
 -- V1: the least wrong place
 only_form : (bytes : List ℕ) (at : ℕ) → ((other : ℕ) → other < at → IsWrongForm bytes other → ⊥) → (rule : Rule) (there : ℕ) → IsBefore rule there V1 at → Breaks rule bytes there → ⊥

@@ -1,20 +1,17 @@
 -- What breaks each rule, and where. The address of a place in the code is the code's base plus the place.
-use Rattle.std.specs.Prelude.{◌≡◌, ◌≢◌, ℕ, zero, suc, ◌+◌, ◌<◌, ◌≤◌, ◌==◌, Bool, true, false, ◌⊎◌, List, [], ◌∷◌, length, take, Contains, Option, Some, None, slice_get, if◌then◌else◌}
+use Rattle.std.specs.Prelude.{◌≡◌, ◌≢◌, ℕ, suc, ◌+◌, ◌==◌, Bool, true, false, ◌⊎◌, List, [], ◌∷◌, length, take, Option, Some, None, slice_get, if◌then◌else◌}
 use Rattle.std.specs.Int.{bit_at}
 use Rattle.std.specs.Option.{option_or}
-use Rattle.cv_word.specs.MemoryMap.{code_base}
 use Rattle.x64_decode.specs.declared.instr.Instr.{Instr}
 use Rattle.x64_decode.specs.declared.instr.Instr.TheVariants as instr
 use Rattle.magic_words.specs.MagicWords.{IsOccurrence}
 use Rattle.code_sweep.specs.declared.item.Item.{Item}
-use Rattle.code_sweep.specs.declared.item.Item.TheVariants.{Call, Ret, Plain, ReturnUnit, CallUnit}
+use Rattle.code_sweep.specs.declared.item.Item.TheVariants.{Call, Ret, Plain, ReturnUnit}
 use Rattle.code_sweep.specs.declared.item.Placed.{Placed}
-use Rattle.code_sweep.specs.Listing.{IsListing, BreaksAt}
 use Rattle.taint_flow.specs.Label.{Label}
 use Rattle.taint_flow.specs.Flow.{address, jump_target, Labelling, MeetsFlow, has_private_address, stores_private, branches_on_private, divides_private, leaves_rsp_private, passes_private, returns_private}
 use Rattle.taint_flow.specs.Calls.{call_bits, call_target, callee, is_call}
-use Rattle.image_form.specs.Image.{Image, IsGood, spelling}
-use Rattle.image_form.specs.Table.{IsFault}
+use Rattle.image_form.specs.Image.{Image}
 use Rattle.conf_verify.specs.declared.rule.Rule.{Rule}
 use Rattle.conf_verify.specs.declared.rule.Rule.TheVariants.{V1, V2, V3, V4, V5, V6, V7, V8, V9, V10, V11, V12, V13, V14, V15, V16}
 

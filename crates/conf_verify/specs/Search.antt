@@ -1,5 +1,5 @@
 -- The first of so many items at which something is bad, by its number.
-use Rattle.std.specs.Prelude.{◌≡◌, ◌≢◌, ◌<◌, ℕ, suc, ◌+◌, Bool, true, false, ◌⊎◌, List, length, Option, Some, None, MatchOption, slice_get, slice_index}
+use Rattle.std.specs.Prelude.{◌≡◌, ◌≢◌, ◌<◌, ℕ, ◌+◌, true, false, ◌⊎◌, List, length, Option, Some, None, MatchOption, slice_get, slice_index}
 use Rattle.std.specs.Int.{bit_at}
 use Rattle.code_sweep.specs.declared.item.Item.{Item}
 use Rattle.code_sweep.specs.declared.item.Item.TheVariants.{Ret, ReturnUnit}

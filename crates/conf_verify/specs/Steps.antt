@@ -1,5 +1,5 @@
 -- What each step of the check leaves known of an image's code.
-use Rattle.std.specs.Prelude.{◌≡◌, ℕ, ◌<◌, List}
+use Rattle.std.specs.Prelude.{ℕ, ◌<◌, List}
 use Rattle.code_sweep.specs.declared.item.Placed.{Placed}
 use Rattle.image_form.specs.Image.{Image}
 use Rattle.conf_verify.specs.declared.rule.Rule.{Rule}

@@ -1,5 +1,5 @@
 -- The verdict on a list of bytes: accepted, or the rule that is told and where.
-use Rattle.std.specs.Prelude.{◌≡◌, ◌≢◌, ℕ, ◌+◌, ◌<◌, Bool, true, false, ◌⊎◌, List, length, slice_index, count_by, not}
+use Rattle.std.specs.Prelude.{◌≡◌, ◌≢◌, ℕ, ◌+◌, ◌<◌, Bool, true, false, ◌⊎◌, List, length, slice_index}
 use Rattle.cv_word.specs.MemoryMap.{code_base}
 use Rattle.code_sweep.specs.declared.item.Placed.{Placed}
 use Rattle.code_sweep.specs.Listing.{IsListing, BreaksAt}
@@ -8,7 +8,7 @@ use Rattle.image_form.specs.Image.{Image, IsGood, spelling}
 use Rattle.image_form.specs.Table.{IsWrongAt}
 use Rattle.conf_verify.specs.declared.rule.Rule.{Rule}
 use Rattle.conf_verify.specs.declared.rule.Rule.TheVariants.{V1, V2}
-use Rattle.conf_verify.specs.Rules.{BreaksShape, BreaksFlow, BreaksUnder, is_flow_rule, rule_number, is_word, is_call_word}
+use Rattle.conf_verify.specs.Rules.{BreaksShape, BreaksFlow, BreaksUnder, is_flow_rule, rule_number}
 
 -- The bytes are those of a good image. So far an image has one entry.
 pub record IsImage (bytes : List ℕ) (image : Image) : Type 0 where

@@ -1,4 +1,4 @@
-use Rattle.std.proofs.Common.{arith, below_more, refl, ◌∙◌, sym, ap, take, add-one, get_or, ◌+◌}
+use Rattle.std.proofs.Common.{arith, below_more, refl, ◌∙◌, sym, ap, take, add-one}
 use Rattle.conf_verify.specs.Rules.{last_bits}
 use Rattle.conf_verify.proofs.Chains.{bits_next, result_found, result_fine}
 use Rattle.conf_verify.proofs.calls.bad_result.Goals as goal

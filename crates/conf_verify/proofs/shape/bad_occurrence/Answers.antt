@@ -1,4 +1,4 @@
-use Rattle.std.proofs.Common.{arith, below_more, refl}
+use Rattle.std.proofs.Common.{arith, below_more}
 use Rattle.conf_verify.proofs.shape.bad_occurrence.Goals as goal
 
 pub loop-k-preserved : goal.loop-k-preserved

@@ -1,4 +1,4 @@
-use Rattle.std.proofs.Common.{◌≡◌, arith, refl, sym, ◌∙◌}
+use Rattle.std.proofs.Common.{sym, ◌∙◌}
 use Rattle.conf_verify.proofs.Shapes.{entry_yes, entry_no, entry_none, entry_low}
 use Rattle.conf_verify.proofs.shape.follows_call_word.Goals as goal
 

@@ -1,4 +1,4 @@
-use Rattle.std.proofs.Common.{◌≡◌, arith, refl, sym, ◌∙◌}
+use Rattle.std.proofs.Common.{sym, ◌∙◌}
 use Rattle.conf_verify.proofs.Shapes.{word_yes, word_no, word_none}
 use Rattle.conf_verify.proofs.shape.has_word.Goals as goal
 

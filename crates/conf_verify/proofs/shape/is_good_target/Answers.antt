@@ -1,5 +1,5 @@
-use Rattle.std.proofs.Common.{◌≡◌, arith, sym, ◌∙◌, ap, not, get_or}
-use Rattle.std.proofs.lemmas.Bool.{eqb-true, false_from_ne_true, eq-eqb, true≢false}
+use Rattle.std.proofs.Common.{sym, ◌∙◌, ap, not, get_or}
+use Rattle.std.proofs.lemmas.Bool.{eqb-true, eq-eqb, true≢false}
 use Rattle.taint_flow.specs.Places.{number_at}
 use Rattle.conf_verify.proofs.Shapes.{target_none, target_past, target_yes, target_no, target_word}
 use Rattle.conf_verify.proofs.shape.is_good_target.Goals as goal

@@ -1,4 +1,3 @@
-use Rattle.std.proofs.Common.{◌≡◌, arith, ℕ, Option, Some, None}
 use Rattle.taint_flow.specs.Places.{number_at}
 use Rattle.conf_verify.proofs.Shapes.{no_number, found_item, only_item, past_item}
 use Rattle.conf_verify.proofs.shape.item_at_place.Goals as goal

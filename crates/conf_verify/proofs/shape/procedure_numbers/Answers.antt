@@ -1,4 +1,4 @@
-use Rattle.std.proofs.Common.{arith, ◌≡◌, ◌∙◌, sym, ap, subst, cond, ◌≤◌, ◌<◌, ◌+◌, ◌++◌, ◌∷◌, [], length, ℕ, List, slice_index, take, add-one}
+use Rattle.std.proofs.Common.{arith, ◌≡◌, ◌∙◌, sym, ap, subst, cond, ◌<◌, ◌+◌, ◌++◌, ◌∷◌, [], length, ℕ, List, slice_index, take, add-one}
 use Rattle.std.proofs.lemmas.List.{length_push}
 use Rattle.conf_verify.specs.Rules.{call_words, procedure_of}
 use Rattle.conf_verify.proofs.Chains.{counted_call, numbers_push}

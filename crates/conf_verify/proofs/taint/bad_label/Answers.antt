@@ -1,4 +1,4 @@
-use Rattle.std.proofs.Common.{ℕ, ◌<◌, arith, below_more, refl}
+use Rattle.std.proofs.Common.{arith, below_more}
 use Rattle.taint_flow.specs.Bits.{labelling_of}
 use Rattle.conf_verify.specs.declared.rule.Rule.{Rule}
 use Rattle.conf_verify.specs.Search.{BadLabel}

@@ -1,9 +1,6 @@
-use Rattle.std.proofs.Common.{◌≡◌, ℕ, length, List, ◌<◌, ◌≤◌, ◌-◌, arith, refl, sym, ◌∙◌, subst, ap, get_or, slice_index, Bool, true, false}
-use Rattle.image_form.specs.Image.{Image}
+use Rattle.std.proofs.Common.{ℕ, List, sym, subst}
 use Rattle.code_sweep.specs.declared.item.Placed.{Placed}
 use Rattle.conf_verify.specs.Answer.{image_of}
-use Rattle.conf_verify.specs.Verdict.{HasListing}
-use Rattle.conf_verify.specs.Steps.{HoldsBelow}
 use Rattle.taint_flow.specs.Places.{StandInOrder}
 use Rattle.taint_flow.specs.Places.{StandApart}
 use Rattle.taint_flow.specs.Calls.{AreEight}

@@ -1,4 +1,4 @@
-use Rattle.std.proofs.Common.{arith, ◌∙◌, sym, ap, not, cond, ◌≤◌, ◌+◌}
+use Rattle.std.proofs.Common.{arith, ◌∙◌, ap, not, cond}
 use Rattle.conf_verify.proofs.Chains.{counted_call, counted_others}
 use Rattle.conf_verify.proofs.verdict.count_items.Goals as goal
 

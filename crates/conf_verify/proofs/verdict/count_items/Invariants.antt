@@ -1,4 +1,4 @@
-use Rattle.std.proofs.Common.{ℕ, ◌≡◌, ◌≤◌, take}
+use Rattle.std.proofs.Common.{◌≡◌, ◌≤◌, take}
 use Rattle.conf_verify.specs.Rules.{call_words, other_items}
 use Rattle.conf_verify.proofs.verdict.count_items.Given as goal
 

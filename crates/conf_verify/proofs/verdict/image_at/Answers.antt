@@ -1,4 +1,4 @@
-use Rattle.std.proofs.Common.{◌≡◌, ℕ, length, List, ◌<◌, ◌≤◌, ◌-◌, arith, refl, sym, ◌∙◌, subst, ap, get_or, slice_index, Bool, true, false}
+use Rattle.std.proofs.Common.{◌∙◌}
 use Rattle.conf_verify.specs.Answer.{image_of}
 use Rattle.conf_verify.proofs.Forms.{long_enough, wrong_refusal, other_count}
 use Rattle.conf_verify.proofs.verdict.image_at.Goals as goal

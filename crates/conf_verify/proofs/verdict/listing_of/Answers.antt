@@ -1,8 +1,6 @@
-use Rattle.std.proofs.Common.{◌≡◌, ℕ, length, List, ◌<◌, ◌≤◌, ◌-◌, arith, refl, sym, ◌∙◌, subst, ap, get_or, slice_index, Bool, true, false}
-use Rattle.image_form.specs.Image.{Image}
-use Rattle.code_sweep.specs.declared.item.Placed.{Placed}
+use Rattle.std.proofs.Common.{subst}
 use Rattle.conf_verify.specs.Answer.{image_of}
-use Rattle.conf_verify.specs.declared.rule.Rule.TheVariants.{V1, V2, V3, V4, V5, V6, V7, V8, V9}
+use Rattle.conf_verify.specs.declared.rule.Rule.TheVariants.{V2}
 use Rattle.code_sweep.specs.Sweep.{IsBreak}
 use Rattle.code_sweep.specs.declared.sweeping.SweepError.{SweepError}
 use Rattle.conf_verify.proofs.Told.{told_break}

@@ -1,6 +1,3 @@
-use Rattle.std.proofs.Common.{◌≡◌, ℕ, length, List, ◌<◌, ◌≤◌, ◌-◌, arith, refl, sym, ◌∙◌, subst, ap, get_or, slice_index, Bool, true, false}
-use Rattle.image_form.specs.Image.{Image}
-use Rattle.code_sweep.specs.declared.item.Placed.{Placed}
 use Rattle.conf_verify.specs.Answer.{image_of}
 use Rattle.conf_verify.proofs.Ends.{raise}
 use Rattle.conf_verify.proofs.verdict.verify.Goals as goal
