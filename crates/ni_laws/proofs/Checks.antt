@@ -1,34 +1,31 @@
 -- Two cores inside a check unit: each instruction leaves them alike, or both fault.
-use Rattle.std.proofs.Common.{◌≡◌, ◌≢◌, ℕ, zero, suc, ◌+◌, ◌-◌, ◌*◌, ◌%◌, ◌^◌, ◌<◌, ◌≤◌, Bool, true, false, ◌&&◌, List, [], ◌∷◌, length, take, drop, Option, Some, None, refl, sym, ◌∙◌, ap, subst, arith, ◌⊎◌, inl, inr, ◌↔◌, slice_get, cond, pos, nat_eq, nat_le, length-take, length-drop}
-use Rattle.std.proofs.lemmas.Bool.{cases_Bool, cases_lt, eq-eqb, eqb-true, true≢false, and_parts, and_from, and_left, le-leb, lt-ltb, leb-true, lt-leb, cond-true, cond-false}
+use Rattle.std.proofs.Common.{◌≡◌, ◌≢◌, ℕ, ◌+◌, ◌-◌, ◌%◌, ◌^◌, ◌<◌, ◌≤◌, Bool, true, false, ◌&&◌, List, length, take, drop, Option, Some, None, refl, sym, ◌∙◌, ap, subst, arith, ◌↔◌, cond, pos, nat_le, length-take, length-drop}
+use Rattle.std.proofs.lemmas.Bool.{eq-eqb, eqb-true, true≢false, and_parts, and_from, and_left, le-leb, lt-ltb, leb-true, lt-leb}
 use Rattle.cv_word.specs.Words.{AreBytes, little_endian, widened}
 use Rattle.cv_word.specs.MemoryMap.{code_base, public_base, private_base, is_in_code}
-use Rattle.cv_word.specs.Arithmetic.{added, subtracted, inverted, flags_subtracted}
+use Rattle.cv_word.specs.Arithmetic.{subtracted, inverted, flags_subtracted}
 use Rattle.cv_word.specs.declared.registers.Flags.{Flags}
 use Rattle.cv_word.specs.declared.registers.Registers.{Registers}
 use Rattle.x64_decode.specs.Spelling.{number, spelling}
 use Rattle.x64_decode.specs.Reading.{instruction_at}
-use Rattle.x64_decode.specs.declared.instr.Reg.{Reg}
 use Rattle.x64_decode.specs.declared.instr.Reg.TheVariants.{Rsp, Gpr10, Gpr11}
 use Rattle.x64_decode.specs.declared.instr.Cond.TheVariants.{E}
-use Rattle.x64_decode.specs.declared.instr.Seg.TheVariants.{Fs, Gs}
 use Rattle.x64_decode.specs.declared.instr.AluOp.TheVariants as alu
 use Rattle.x64_decode.specs.declared.instr.Instr.{Instr}
-use Rattle.x64_decode.specs.declared.instr.Instr.TheVariants.{Mov, Not, MovImm64, AluImm, Load, CmpFlat, JmpR10, CallR10, Jcc, Ud2}
+use Rattle.x64_decode.specs.declared.instr.Instr.TheVariants.{Not, MovImm64, AluImm, CmpFlat, Jcc, Ud2}
 use Rattle.code_sweep.specs.Units.{inverse}
-use Rattle.code_sweep.specs.declared.item.Item.{Item}
 use Rattle.code_sweep.specs.declared.item.Placed.{Placed}
 use Rattle.taint_flow.specs.Label.{Label}
 use Rattle.taint_flow.specs.Flow.{Labelling, address}
 use Rattle.x64_alu.specs.declared.fault.FaultKind.{FaultKind}
 use Rattle.x64_alu.specs.declared.fault.FaultKind.TheVariants as fault
-use Rattle.x64_alu.specs.Memory.{Memory, loaded, flat_loaded, is_code_word, is_segment_word}
-use Rattle.x64_alu.specs.CoreStep.{Effect, goes, faults, value, put, put_where, flagged, moved_to, holds, alu_result, alu_flags, goes_on, after_comparison, target_of, executed, after_fetch, instruction_in, core_step}
+use Rattle.x64_alu.specs.Memory.{Memory, flat_loaded, is_code_word, is_segment_word}
+use Rattle.x64_alu.specs.CoreStep.{Effect, goes, faults, value, put, flagged, moved_to, holds, alu_result, alu_flags, goes_on, after_comparison, target_of, executed, after_fetch, instruction_in, core_step}
 use Rattle.ni_laws.specs.Agreement.{HasSixteen, EqualUnder, Equal, inside_label, InUnit, Stage, stage_offset, Holds, has_compared, WordStands, AtStage, Standing, at_item, at_raise, at_stage, at_gate, check_of, memory}
 use Rattle.ni_laws.specs.Agreement as at
 use Rattle.ni_laws.proofs.Registers.{value_same, value_other, moved, stack_put, hidden_put, hidden_flagged}
-use Rattle.ni_laws.proofs.Bytes.{inverse_again, inverse_bytes, eight_small, same_bytes, take_bytes, drop_bytes}
-use Rattle.ni_laws.proofs.Units.{CheckAt, UnitAt, last_of, inside_code}
+use Rattle.ni_laws.proofs.Bytes.{inverse_again, eight_small, same_bytes, take_bytes, drop_bytes}
+use Rattle.ni_laws.proofs.Units.{UnitAt, inside_code}
 
 -- Two effects of one step: both go on and the cores stand alike again, with the same public memory, or the fault is the same.
 pub data StepsAlike (prefix code : List ℕ) (items : List Placed) (labels : Labelling) (size : ℕ) : Effect → Effect → Type 0 where

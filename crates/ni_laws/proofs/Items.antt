@@ -1,28 +1,24 @@
 -- What stands at an item of an accepted code, and where it leads.
-use Rattle.std.proofs.Common.{◌≡◌, ◌≢◌, ℕ, zero, suc, ◌+◌, ◌-◌, ◌<◌, ◌≤◌, Bool, true, false, ◌&&◌, not, List, [], ◌∷◌, length, drop, get_or, Option, Some, None, refl, sym, ◌∙◌, ap, subst, arith, ◌⊎◌, inl, inr, slice_get, cond, eqb, leb, ◌*◌, ◌/◌, ◌%◌, take}
+use Rattle.std.proofs.Common.{◌≡◌, ◌≢◌, ℕ, zero, suc, ◌+◌, ◌-◌, ◌<◌, ◌≤◌, Bool, true, false, ◌&&◌, not, List, [], ◌∷◌, length, drop, get_or, Option, Some, None, refl, sym, ◌∙◌, ap, subst, arith, ◌⊎◌, inl, inr, slice_get, cond, eqb, leb, ◌/◌, ◌%◌, take}
 use Rattle.std.specs.Option.{option_or}
 use Rattle.std.proofs.lemmas.List.{drop-drop}
-use Rattle.std.proofs.lemmas.Bool.{cond-true, cond-false, ne_eqb, cases_Bool, cases_eq, false_from_ne_true, and_from, and_parts, true≢false, le-leb, lt-ltb, le-leb, eqb-true, leb-true, eq-eqb, not-true, not_from_false}
+use Rattle.std.proofs.lemmas.Bool.{cond-true, cond-false, ne_eqb, cases_Bool, cases_eq, false_from_ne_true, and_from, and_parts, true≢false, eqb-true, leb-true, eq-eqb, not-true, not_from_false}
 use Rattle.std.proofs.lemmas.Option.{slice_get_within, slice_get-get_or}
-use Rattle.cv_word.specs.MemoryMap.{code_base, is_in_code}
-use Rattle.x64_decode.specs.Spelling.{spelling}
-use Rattle.x64_decode.specs.Reading.{instruction_at}
 use Rattle.x64_decode.specs.declared.instr.Instr.{Instr}
 use Rattle.code_sweep.specs.declared.item.Item.{Item}
 use Rattle.code_sweep.specs.declared.item.Item.TheVariants.{Call, Ret, Plain, ReturnUnit, CallUnit}
 use Rattle.code_sweep.specs.declared.item.Placed.{Placed}
-use Rattle.code_sweep.specs.Listing.{item_bytes, IsChain, StandsAt, StandsAlone}
-use Rattle.taint_flow.specs.Label.{Label, left_by}
-use Rattle.taint_flow.specs.Flow.{address, address_after, Labelling, MeetsFlow, jump_target, instruction_falls, instruction_target}
+use Rattle.code_sweep.specs.Listing.{item_bytes, IsChain, StandsAt}
+use Rattle.taint_flow.specs.Flow.{address, address_after, Labelling, MeetsFlow}
 use Rattle.conf_verify.specs.declared.rule.Rule.{Rule}
 use Rattle.conf_verify.specs.declared.rule.Rule.TheVariants.{V10, V11, V12, V13, V14}
 use Rattle.conf_verify.specs.Rules.{is_word, is_call_word, may_end, IsLast, BreaksEnds, BreaksPrefix, BreaksReturns, BreaksJumps, BreaksCalls, BreaksUnder, FollowsCall, IsGoodTarget, procedure_of, item_breaks}
 use Rattle.cv_word.specs.Words.{AreBytes}
 use Rattle.cv_word.specs.Gates.{gate_bits, gate_bits_at, gate_address}
 use Rattle.magic_words.specs.MagicWords.{call_word, return_word, IsOccurrence}
-use Rattle.taint_flow.specs.Calls.{call_bits, procedure_at, call_target, bits_at, callee, is_call}
+use Rattle.taint_flow.specs.Calls.{procedure_at, call_target, bits_at, callee, is_call}
 use Rattle.taint_flow.proofs.Callees.{bits_are}
-use Rattle.ni_laws.proofs.Rows.{KeepsRules, Lands}
+use Rattle.ni_laws.proofs.Rows.{KeepsRules}
 
 -- what acceptance says of a code, its listing and labels
 pub record Facts (prefix code : List ℕ) (items : List Placed) (labels : Labelling) : Type 0 where

@@ -1,7 +1,7 @@
 -- Accepted bytes are noninterfering.
-use Rattle.std.proofs.Common.{◌≡◌, ◌≢◌, ℕ, zero, suc, ◌+◌, ◌-◌, ◌*◌, ◌<◌, ◌≤◌, Bool, true, false, ◌&&◌, not, List, [], ◌∷◌, ◌++◌, length, Option, Some, None, refl, sym, ◌∙◌, ap, subst, arith, ◌⊎◌, inl, inr, slice_get, cond, eqb, get_or}
-use Rattle.std.specs.Prelude.{Contains, replicate}
-use Rattle.std.proofs.lemmas.Bool.{false_from_ne_true, and_from, and_parts, true≢false, eq-eqb, eqb-true}
+use Rattle.std.proofs.Common.{◌≡◌, ℕ, zero, suc, ◌+◌, ◌-◌, ◌*◌, Bool, true, ◌&&◌, List, [], ◌∷◌, ◌++◌, length, Some, refl, sym, ◌∙◌, ap, subst, arith, slice_get, eqb}
+use Rattle.std.specs.Prelude.{replicate}
+use Rattle.std.proofs.lemmas.Bool.{and_from, and_parts, true≢false, eq-eqb, eqb-true}
 use Rattle.std.proofs.lemmas.List.{length-set}
 use Rattle.cv_word.specs.MemoryMap.{code_base, public_base}
 use Rattle.cv_word.specs.declared.registers.Registers.{Registers}
@@ -11,22 +11,21 @@ use Rattle.code_sweep.specs.declared.item.Item.{Item}
 use Rattle.code_sweep.specs.declared.item.Item.TheVariants.{Call, Ret, Plain, ReturnUnit, CallUnit}
 use Rattle.code_sweep.specs.declared.item.Placed.{Placed}
 use Rattle.taint_flow.specs.Label.{Label, entry_label}
-use Rattle.taint_flow.specs.Flow.{address, address_after, Labelling, said_behind}
+use Rattle.taint_flow.specs.Flow.{address_after, Labelling, said_behind}
 use Rattle.image_form.specs.Image.{Image, IsGood, signature, word, spelling}
 use Rattle.std.specs.List.{concat, flat_map}
 use Rattle.std.proofs.lemmas.Option.{same_Some, none-some}
 use Rattle.cv_word.specs.Words.{AreBytes}
 use Rattle.conf_verify.specs.declared.rule.Rule.TheVariants.{V3, V4, V5, V6, V7, V9}
-use Rattle.conf_verify.specs.Rules.{is_word, is_call_word, may_end, IsLast, FollowsCallWord, BreaksEntries}
-use Rattle.conf_verify.specs.Verdict.{IsImage, IsAcceptedImage, IsAccepted}
+use Rattle.conf_verify.specs.Rules.{is_word, is_call_word, FollowsCallWord}
+use Rattle.conf_verify.specs.Verdict.{IsImage, IsAcceptedImage}
 use Rattle.x64_machine.specs.declared.outcome.Outcome.TheVariants.{Running}
-use Rattle.x64_machine.specs.Run.{Core, Configuration, run, view}
+use Rattle.x64_machine.specs.Run.{run, view}
 use Rattle.x64_machine.specs.Start.{Shared, Secret, start_registers, start_cores, start}
 use Rattle.x64_alu.specs.Memory.{padded}
 use Rattle.cv_word.specs.MemoryMap.{first_mapped}
-use Rattle.x64_machine.specs.Noninterference.{Noninterfering}
-use Rattle.ni_laws.specs.Agreement.{HasSixteen, EqualUnder, Equal, AtItem, at_item, CoreAlike, CoresAlike, Agree, agree}
-use Rattle.ni_laws.proofs.Items.{Facts, Found, found, nowhere, search_items}
+use Rattle.ni_laws.specs.Agreement.{HasSixteen, Equal, AtItem, at_item, CoresAlike, agree}
+use Rattle.ni_laws.proofs.Items.{Facts, found, nowhere, search_items}
 use Rattle.ni_laws.proofs.Bytes.{left_bytes, right_bytes, append_bytes, zeros_are}
 use Rattle.ni_laws.proofs.Steps.{landed_word}
 use Rattle.ni_laws.proofs.Runs.{run_alike, same_view}

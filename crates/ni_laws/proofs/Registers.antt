@@ -1,5 +1,5 @@
 -- Registers and flags that are equal under a label, after writes that are equal where the new label says so.
-use Rattle.std.proofs.Common.{◌≡◌, ◌≢◌, ℕ, ◌+◌, ◌<◌, Bool, true, false, ◌||◌, ◌&&◌, not, List, length, get_or, refl, sym, ◌∙◌, ap, arith, nat_eq, cond, Some, ◌⊎◌, inl, inr}
+use Rattle.std.proofs.Common.{◌≡◌, ◌≢◌, ℕ, ◌<◌, Bool, true, false, ◌||◌, ◌&&◌, not, get_or, refl, sym, ◌∙◌, ap, arith, nat_eq, Some, inl, inr}
 use Rattle.std.proofs.lemmas.List.{get_or-set_same, get_or-set_other, length-set}
 use Rattle.std.proofs.lemmas.Bool.{cases_eq, eq-eqb, ne_eqb, cases_Bool, true≢false}
 use Rattle.cv_word.specs.declared.registers.Flags.{Flags}

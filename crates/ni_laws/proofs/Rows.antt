@@ -1,32 +1,30 @@
 -- The law of one instruction: from states that are equal under a label it doesn't break, both runs go on to states that are
 -- equal under the label that it leaves, or both fault alike. One or two lines for each row of the instruction table.
-use Rattle.std.proofs.Common.{◌≡◌, ℕ, ◌+◌, ◌*◌, ◌/◌, ◌%◌, ◌^◌, Bool, true, false, ◌||◌, List, length, Option, Some, None, refl, sym, ◌∙◌, ap, subst, cond, ◌⊎◌, inl, inr, ℤ, drop, take, ◌++◌}
+use Rattle.std.proofs.Common.{◌≡◌, ℕ, ◌%◌, ◌^◌, Bool, true, false, ◌||◌, List, Option, Some, None, refl, ap, subst, cond, ◌⊎◌, inl, inr, ℤ}
 use Rattle.std.specs.Int.RustNames.{bit_and}
-use Rattle.cv_word.specs.Words.{widened, sign_extended, little_endian, word_bytes, spliced}
+use Rattle.cv_word.specs.Words.{widened, sign_extended, word_bytes, spliced}
 use Rattle.cv_word.specs.MemoryMap.{is_mapped, operand_offset}
-use Rattle.cv_word.specs.Arithmetic.{added, flags_of_bits, negated, flags_negated, inverted, multiplied, signs_of, divided, no_flags}
+use Rattle.cv_word.specs.Arithmetic.{flags_of_bits, negated, flags_negated, inverted, multiplied, signs_of, divided, no_flags}
 use Rattle.cv_word.specs.declared.registers.Flags.{Flags}
 use Rattle.cv_word.specs.declared.registers.Registers.{Registers}
-use Rattle.x64_decode.specs.Spelling.{number}
 use Rattle.x64_decode.specs.declared.instr.Reg.{Reg}
 use Rattle.x64_decode.specs.declared.instr.Reg.TheVariants.{Rax, Rcx, Rdx, Rsp}
 use Rattle.x64_decode.specs.declared.instr.Cond.{Cond}
 use Rattle.x64_decode.specs.declared.instr.Seg.{Seg}
 use Rattle.x64_decode.specs.declared.instr.Seg.TheVariants.{Fs, Gs}
 use Rattle.x64_decode.specs.declared.instr.Mem.{Mem}
-use Rattle.x64_decode.specs.declared.instr.AluOp.{AluOp}
 use Rattle.x64_decode.specs.declared.instr.Instr.{Instr}
 use Rattle.x64_decode.specs.declared.instr.Instr.TheVariants.{Mov, Alu, Test, Imul, Not, Neg, Idiv, Cqo, ShiftImm, ShiftCl, Movsxd, Movzx8, Movsx8, Setcc, Cmov, MovImm32, MovImm64, MovImmS, AluImm, Load, LoadZx8, LoadSx8, LoadSx32, Store, CmpFlat, JmpR10, CallR10, Call, Jmp, Jcc, Ud2, Nop}
 use Rattle.code_sweep.specs.Listing.{StandsAlone}
-use Rattle.taint_flow.specs.Label.{Label, flags, taint, set, set_reg, set_where, is_written, segment_taint, left_by}
+use Rattle.taint_flow.specs.Label.{Label, flags, taint, set, set_reg, segment_taint, left_by}
 use Rattle.taint_flow.specs.Flow.{instruction_falls, instruction_target, memory_of, base_is_private, instruction_stores_private, shows_private, instruction_branches_on_private, instruction_divides_private}
 use Rattle.taint_flow.specs.Calls.{instruction_is_call}
 use Rattle.x64_alu.specs.declared.fault.FaultKind.{FaultKind}
 use Rattle.x64_alu.specs.declared.fault.FaultKind.TheVariants as fault
-use Rattle.x64_alu.specs.Memory.{Memory, segment, with_segment, loaded, stored}
+use Rattle.x64_alu.specs.Memory.{Memory, loaded, stored}
 use Rattle.x64_alu.specs.CoreStep.{Effect, goes, faults, value, put, put_where, flagged, moved_to, holds, alu_result, alu_flags, shift_result, with_low_byte, byte_count, offset_of, goes_on, after_division, after_load, load_into, after_store, target_of, executed}
 use Rattle.x64_alu.specs.CoreStep as step
-use Rattle.ni_laws.specs.Agreement.{HasSixteen, EqualUnder, memory}
+use Rattle.ni_laws.specs.Agreement.{EqualUnder, memory}
 use Rattle.ni_laws.proofs.Registers.{equal_put, equal_put_where, equal_put_own, equal_put_own_where, under_flags, equal_flagged, equal_moved}
 use Rattle.std.proofs.lemmas.Bool.{or_parts, true≢false}
 

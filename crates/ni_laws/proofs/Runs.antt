@@ -1,25 +1,25 @@
 -- Two runs of an accepted code: configurations that agree still do after a step, so after a run, and show the same.
-use Rattle.std.proofs.Common.{◌≡◌, ℕ, zero, suc, ◌+◌, ◌-◌, ◌<◌, ◌≤◌, Bool, true, false, List, [], ◌∷◌, length, take, drop, Option, Some, None, refl, sym, ◌∙◌, ap, subst, arith, slice_get, slice_set, cond, map}
+use Rattle.std.proofs.Common.{◌≡◌, ℕ, zero, suc, ◌+◌, ◌-◌, Bool, true, false, List, [], ◌∷◌, length, Option, Some, None, refl, sym, ◌∙◌, ap, subst, slice_get, slice_set, cond, map}
 use Rattle.std.proofs.lemmas.Bool.{true≢false}
-use Rattle.cv_word.specs.Words.{AreBytes, word_bytes, spliced}
+use Rattle.cv_word.specs.Words.{AreBytes}
 use Rattle.cv_word.specs.MemoryMap.{public_base, private_base, is_in_code, is_mapped}
-use Rattle.cv_word.specs.Arithmetic.{subtracted, divided}
+use Rattle.cv_word.specs.Arithmetic.{subtracted}
 use Rattle.cv_word.specs.declared.registers.Registers.{Registers}
 use Rattle.x64_decode.specs.Spelling.{spelling}
 use Rattle.x64_decode.specs.declared.instr.Reg.{Reg}
-use Rattle.x64_decode.specs.declared.instr.Reg.TheVariants.{Rax, Rdx, Rsp, Gpr10}
+use Rattle.x64_decode.specs.declared.instr.Reg.TheVariants.{Rsp}
 use Rattle.x64_decode.specs.declared.instr.Seg.{Seg}
 use Rattle.x64_decode.specs.declared.instr.Seg.TheVariants.{Fs, Gs}
 use Rattle.x64_decode.specs.declared.instr.Instr.{Instr}
 use Rattle.x64_decode.specs.declared.instr.Instr.TheVariants.{Idiv, Load, LoadZx8, LoadSx8, LoadSx32, Store, CmpFlat, CallR10}
 use Rattle.x64_decode.specs.declared.instr.Instr.TheVariants as instr
-use Rattle.x64_alu.specs.Memory.{Memory, loaded, stored, flat_loaded, flat_stored, is_segment_word}
-use Rattle.x64_alu.specs.CoreStep.{Effect, goes, faults, value, after_division, after_load, after_store, after_comparison, after_push, calls, target_of, executed, after_fetch, core_step, instruction_in, offset_of}
+use Rattle.x64_alu.specs.Memory.{Memory, stored, flat_stored, is_segment_word}
+use Rattle.x64_alu.specs.CoreStep.{Effect, goes, faults, value, after_division, after_load, after_store, after_comparison, after_push, executed, after_fetch, core_step, instruction_in, offset_of}
 use Rattle.code_sweep.specs.declared.item.Placed.{Placed}
 use Rattle.taint_flow.specs.Flow.{Labelling}
 use Rattle.x64_machine.specs.declared.outcome.Outcome.{Outcome}
 use Rattle.x64_machine.specs.declared.outcome.Outcome.TheVariants as outcome
-use Rattle.x64_machine.specs.Run.{Core, Configuration, is_running, after_step, step_core, step, run, View, view}
+use Rattle.x64_machine.specs.Run.{Core, Configuration, after_step, step_core, step, run, View, view}
 use Rattle.ni_laws.specs.Agreement.{CoreAlike, CoresAlike, memory, config, Agree, agree}
 use Rattle.ni_laws.proofs.Bytes.{spliced_bytes}
 use Rattle.ni_laws.proofs.Items.{Facts}

@@ -1,9 +1,9 @@
 -- The instructions inside a check unit, by its bytes.
-use Rattle.std.proofs.Common.{◌≡◌, ℕ, zero, suc, ◌+◌, ◌-◌, ◌<◌, ◌≤◌, List, [], ◌∷◌, ◌++◌, length, take, drop, Option, Some, None, refl, sym, ◌∙◌, ap, subst, arith, ◌⊎◌, inl, inr, pos, false, append_assoc, length-append, rules, ◌^◌, ◌*◌}
+use Rattle.std.proofs.Common.{◌≡◌, ℕ, suc, ◌+◌, ◌-◌, ◌<◌, List, [], ◌∷◌, ◌++◌, length, take, drop, Option, Some, None, refl, sym, ◌∙◌, ap, subst, arith, inl, inr, pos, false, append_assoc, rules, ◌^◌}
 use Rattle.std.proofs.lemmas.Bool.{cases_lt}
 use Rattle.std.proofs.lemmas.List.{drop-drop, take-append-drop, drop_all, length-map}
-use Rattle.cv_word.specs.Words.{AreBytes, little_endian, word_bytes}
-use Rattle.x64_decode.specs.Spelling.{number, spelling, HasSpelling, Spells}
+use Rattle.cv_word.specs.Words.{AreBytes, little_endian}
+use Rattle.x64_decode.specs.Spelling.{spelling, HasSpelling}
 use Rattle.x64_decode.specs.Reading.{instruction_at, read}
 use Rattle.x64_decode.specs.declared.instr.Reg.{Reg}
 use Rattle.x64_decode.specs.declared.instr.Reg.TheVariants.{Rsp, Gpr10, Gpr11}

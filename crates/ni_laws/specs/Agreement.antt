@@ -1,5 +1,5 @@
 -- When two configurations of the same accepted code agree.
-use Rattle.std.specs.Prelude.{◌≡◌, ℕ, suc, ◌+◌, ◌^◌, ◌<◌, ◌↔◌, Bool, true, false, List, [], ◌∷◌, length, take, drop, Option, Some, None, slice_get}
+use Rattle.std.specs.Prelude.{◌≡◌, ℕ, ◌+◌, ◌^◌, ◌<◌, ◌↔◌, Bool, true, false, List, [], ◌∷◌, length, take, drop, Option, Some, None, slice_get}
 use Rattle.cv_word.specs.Words.{AreBytes, little_endian}
 use Rattle.cv_word.specs.MemoryMap.{code_base}
 use Rattle.cv_word.specs.Gates.{gate_bits, gate_address}

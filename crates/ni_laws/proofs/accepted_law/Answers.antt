@@ -1,4 +1,4 @@
-use Rattle.std.proofs.Common.{◌≡◌, List, ℕ, sym, ◌∙◌, subst}
+use Rattle.std.proofs.Common.{sym, ◌∙◌, subst}
 use Rattle.image_form.specs.Image.{Image}
 use Rattle.image_form.proofs.Laws.{spelling_is_one}
 use Rattle.conf_verify.specs.Verdict.{IsAcceptedImage}
