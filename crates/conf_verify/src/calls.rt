@@ -60,7 +60,7 @@ fn follows_call(items: &[Placed], i: usize) -> bool
 }
 
 /// Whether item `i` is a call behind which no return word stands that fits, or a return word that follows no call.
-fn is_bad_return(items: &[Placed], numbers: &ItemNumbers, i: usize) -> bool
+fn is_bad_return(items: &[Placed], numbers: &ItemNumbers<'_>, i: usize) -> bool
     requires numbers { NumbersItems items.now (number_at numbers.now) }
     requires eight { AreEight items.now }
     requires apart { StandApart items.now }
@@ -79,7 +79,7 @@ fn is_bad_return(items: &[Placed], numbers: &ItemNumbers, i: usize) -> bool
 }
 
 /// The first item that breaks the rule on what stands behind calls and before return words.
-pub fn bad_return(items: &[Placed], numbers: &ItemNumbers) -> Option<usize>
+pub fn bad_return(items: &[Placed], numbers: &ItemNumbers<'_>) -> Option<usize>
     requires numbers { NumbersItems items.now (number_at numbers.now) }
     requires eight { AreEight items.now }
     requires apart { StandApart items.now }
@@ -94,7 +94,7 @@ pub fn bad_return(items: &[Placed], numbers: &ItemNumbers) -> Option<usize>
 }
 
 /// Whether item `i` is a direct call whose target is neither behind a call word nor a gate.
-fn is_bad_call(items: &[Placed], numbers: &ItemNumbers, i: usize) -> bool
+fn is_bad_call(items: &[Placed], numbers: &ItemNumbers<'_>, i: usize) -> bool
     requires numbers { NumbersItems items.now (number_at numbers.now) }
     requires eight { AreEight items.now }
     requires apart { StandApart items.now }
@@ -110,7 +110,7 @@ fn is_bad_call(items: &[Placed], numbers: &ItemNumbers, i: usize) -> bool
 }
 
 /// The first direct call with a bad target.
-pub fn bad_call(items: &[Placed], numbers: &ItemNumbers) -> Option<usize>
+pub fn bad_call(items: &[Placed], numbers: &ItemNumbers<'_>) -> Option<usize>
     requires numbers { NumbersItems items.now (number_at numbers.now) }
     requires eight { AreEight items.now }
     requires apart { StandApart items.now }

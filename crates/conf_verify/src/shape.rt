@@ -7,13 +7,10 @@ ghost use Rattle.conf_verify.specs.Rules.{is_word, is_call_word, may_end, IsGood
 ghost use Rattle.conf_verify.specs.Search.{AreProcedures, BeginsAt, IsFirstBad, BadEnd, BadJump, HasWord, BadOccurrence};
 
 use code_sweep::{Item, Placed};
-use cv_word::NoMemory;
+use cv_word::{CODE_BASE, NoMemory};
 use std::alloc::Global;
 use taint_flow::{ItemNumbers, jump_target};
 use x64_decode::Instr;
-
-/// The flat address of a code's first byte.
-pub const CODE_BASE: u64 = 0x1_0000;
 
 /// Whether the item is a word.
 pub fn is_word(item: &Item) -> bool
@@ -95,7 +92,7 @@ pub fn bad_end(items: &[Placed]) -> Option<usize>
 }
 
 /// The item that begins at a place of the code.
-fn item_at_place(items: &[Placed], numbers: &ItemNumbers, place: u64) -> Option<Placed>
+fn item_at_place(items: &[Placed], numbers: &ItemNumbers<'_>, place: u64) -> Option<Placed>
     requires { NumbersItems items.now (number_at numbers.now) }
     ensures found { IfSome result (λ q. BeginsAt items.now q place) }
     ensures only { (j : ℕ) (q : Placed) → slice_get items.now j ≡ Some q → q.at ≡ place → result ≡ Some q }
@@ -128,7 +125,7 @@ pub fn procedure_numbers(alloc: Global, items: &[Placed]) -> Result<Vec<u32>, No
 /// Whether an item of item `i`'s procedure that is no word stands at a flat address.
 fn is_good_target(
     items: &[Placed],
-    numbers: &ItemNumbers,
+    numbers: &ItemNumbers<'_>,
     procedures: &[u32],
     i: usize,
     target: u64,
@@ -153,7 +150,7 @@ fn is_good_target(
     !is_word(&q.item) && procedures[j] == procedures[i]
 }
 
-fn is_bad_jump(items: &[Placed], numbers: &ItemNumbers, procedures: &[u32], i: usize) -> bool
+fn is_bad_jump(items: &[Placed], numbers: &ItemNumbers<'_>, procedures: &[u32], i: usize) -> bool
     requires numbers { NumbersItems items.now (number_at numbers.now) }
     requires procedures { AreProcedures items.now procedures.now }
     requires inside { i < length items.now }
@@ -168,7 +165,7 @@ fn is_bad_jump(items: &[Placed], numbers: &ItemNumbers, procedures: &[u32], i: u
 }
 
 /// The first jump whose target is no item of its procedure, or a word.
-pub fn bad_jump(items: &[Placed], numbers: &ItemNumbers, procedures: &[u32]) -> Option<usize>
+pub fn bad_jump(items: &[Placed], numbers: &ItemNumbers<'_>, procedures: &[u32]) -> Option<usize>
     requires numbers { NumbersItems items.now (number_at numbers.now) }
     requires procedures { AreProcedures items.now procedures.now }
     ensures { IsFirstBad (BadJump items.now) (length items.now) result }
@@ -182,7 +179,7 @@ pub fn bad_jump(items: &[Placed], numbers: &ItemNumbers, procedures: &[u32]) -> 
 }
 
 /// Whether a word's prefix stands at a place.
-fn has_word(items: &[Placed], numbers: &ItemNumbers, place: u32) -> bool
+fn has_word(items: &[Placed], numbers: &ItemNumbers<'_>, place: u32) -> bool
     requires { NumbersItems items.now (number_at numbers.now) }
     ensures yes { IsTrue result → HasWord items.now place }
     ensures no { result ≡ false → HasWord items.now place → ⊥ }
@@ -197,7 +194,7 @@ fn has_word(items: &[Placed], numbers: &ItemNumbers, place: u32) -> bool
 }
 
 /// The first of the places at which the prefix stands and isn't that of a word.
-pub fn bad_occurrence(items: &[Placed], numbers: &ItemNumbers, places: &[u32]) -> Option<usize>
+pub fn bad_occurrence(items: &[Placed], numbers: &ItemNumbers<'_>, places: &[u32]) -> Option<usize>
     requires { NumbersItems items.now (number_at numbers.now) }
     ensures { IsFirstBad (BadOccurrence items.now places.now) (length places.now) result }
 {
@@ -210,7 +207,7 @@ pub fn bad_occurrence(items: &[Placed], numbers: &ItemNumbers, places: &[u32]) -
 }
 
 /// Whether an entry follows a call word.
-pub fn follows_call_word(items: &[Placed], numbers: &ItemNumbers, entry: u32) -> bool
+pub fn follows_call_word(items: &[Placed], numbers: &ItemNumbers<'_>, entry: u32) -> bool
     requires numbers { NumbersItems items.now (number_at numbers.now) }
     requires eight { (i : ℕ) (p : Placed) → slice_get items.now i ≡ Some p → is_call_word p.item ≡ true → p.len ≡ 8 }
     ensures yes { IsTrue result → FollowsCallWord items.now entry }

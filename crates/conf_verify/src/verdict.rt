@@ -16,12 +16,12 @@ ghost use Rattle.conf_verify.specs.Answer.{Checked, image_of, checked_of, HasCou
 use crate::calls::{bad_call, bad_result, bad_return};
 use crate::rule::Rule;
 use crate::shape::{
-    CODE_BASE, bad_end, bad_jump, bad_occurrence, follows_call_word, is_call_word, is_word,
+    bad_end, bad_jump, bad_occurrence, follows_call_word, is_call_word, is_word,
     one_where, procedure_numbers,
 };
 use crate::taint::{bad_label, least_labels};
 use code_sweep::{Listing, Placed, SweepError, sweep};
-use cv_word::NoMemory;
+use cv_word::{CODE_BASE, NoMemory};
 use image_form::{Parts, read_image};
 use magic_words::occurrences;
 use std::alloc::Global;
@@ -204,7 +204,7 @@ fn check_shape(
     alloc: Global,
     parts: &Parts<'_>,
     items: &[Placed],
-    numbers: &ItemNumbers,
+    numbers: &ItemNumbers<'_>,
 ) -> Result<(), VerifyError>
     requires good { IsGood (image_of parts.now) }
     requires one { length (image_of parts.now).entries ≡ 1 }
@@ -239,7 +239,7 @@ fn check_prefix(
     alloc: Global,
     parts: &Parts<'_>,
     items: &[Placed],
-    numbers: &ItemNumbers,
+    numbers: &ItemNumbers<'_>,
 ) -> Result<(), VerifyError>
     requires good { IsGood (image_of parts.now) }
     requires listing { HasListing (image_of parts.now) items.now }
@@ -259,7 +259,7 @@ fn check_prefix(
 fn check_returns(
     parts: &Parts<'_>,
     items: &[Placed],
-    numbers: &ItemNumbers,
+    numbers: &ItemNumbers<'_>,
 ) -> Result<(), VerifyError>
     requires good { IsGood (image_of parts.now) }
     requires listing { HasListing (image_of parts.now) items.now }
@@ -279,7 +279,7 @@ fn check_jumps(
     alloc: Global,
     parts: &Parts<'_>,
     items: &[Placed],
-    numbers: &ItemNumbers,
+    numbers: &ItemNumbers<'_>,
 ) -> Result<(), VerifyError>
     requires good { IsGood (image_of parts.now) }
     requires listing { HasListing (image_of parts.now) items.now }
@@ -299,7 +299,7 @@ fn check_jumps(
 fn check_calls(
     parts: &Parts<'_>,
     items: &[Placed],
-    numbers: &ItemNumbers,
+    numbers: &ItemNumbers<'_>,
 ) -> Result<(), VerifyError>
     requires good { IsGood (image_of parts.now) }
     requires listing { HasListing (image_of parts.now) items.now }
@@ -331,7 +331,7 @@ fn check_results(parts: &Parts<'_>, items: &[Placed]) -> Result<(), VerifyError>
 fn check_entry(
     parts: &Parts<'_>,
     items: &[Placed],
-    numbers: &ItemNumbers,
+    numbers: &ItemNumbers<'_>,
 ) -> Result<(), VerifyError>
     requires good { IsGood (image_of parts.now) }
     requires one { length (image_of parts.now).entries ≡ 1 }
@@ -355,7 +355,7 @@ fn check_flow(
     alloc: Global,
     parts: &Parts<'_>,
     listing: &Listing<'_>,
-    numbers: &ItemNumbers,
+    numbers: &ItemNumbers<'_>,
 ) -> Result<(), VerifyError>
     requires good { IsGood (image_of parts.now) }
     requires code { listing.now.code.now ≡ (image_of parts.now).code }

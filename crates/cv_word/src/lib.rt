@@ -5,12 +5,14 @@
 #![tactic(auto)]
 
 mod gates;
+mod memory_map;
 mod no_memory;
 mod registers;
 mod steps;
 mod words;
 
 pub use gates::gate_bits;
+pub use memory_map::{CODE_BASE, PRIVATE_BASE, PUBLIC_BASE};
 pub use no_memory::NoMemory;
 pub use registers::{Flags, Registers, Taint};
 pub use steps::Steps;

@@ -7,11 +7,8 @@ ghost use Rattle.disasm_text.specs.ListingText.{LiesInside, item_text, line_of, 
 use crate::instruction::push_instruction;
 use crate::operand::register_name;
 use code_sweep::{Item, Listing, Placed};
-use cv_word::NoMemory;
+use cv_word::{CODE_BASE, NoMemory};
 use std::alloc::Global;
-
-/// The flat address of the code's first byte.
-const CODE_BASE: u32 = 0x1_0000;
 
 /// Appends the text of an item, from the flat address behind it.
 #[tactic(auto, using(crate::proofs::Padding::padding), unfolding(crate::specs::ListingText::item_text))]
@@ -47,10 +44,10 @@ fn push_line(alloc: Global, out: &mut String, code: &[u8], p: &Placed) -> Result
     requires short { length code.now ≤ 4194304 }
     ensures { OnOk result (string_bytes out.new ≡ string_bytes out.old ++ line_of code.now p.now) }
 {
-    let address = CODE_BASE + p.at;
+    let address = CODE_BASE + u64::from(p.at);
     let bytes = hex::encode(alloc, bytes_of(code, p))?;
     write!(out, "{address:08x}: {bytes} ")?;
-    push_item(out, u64::from(address) + u64::from(p.len), &p.item)?;
+    push_item(out, address + u64::from(p.len), &p.item)?;
     out.push('\n')?;
     Ok(())
 }

@@ -5,10 +5,10 @@ ghost use Rattle.cv_word.specs.Gates.{gate_bits_at};
 ghost use Rattle.taint_flow.specs.Places.{StandApart, NumbersItems, number_at};
 ghost use Rattle.taint_flow.specs.Calls.{bits_at, call_bits, call_target, callee, is_call, procedure_at, AreEight};
 
-use crate::flow::{CODE_BASE, behind, target_from};
+use crate::flow::{behind, target_from};
 use crate::places::ItemNumbers;
 use code_sweep::{Item, Placed};
-use cv_word::gate_bits;
+use cv_word::{CODE_BASE, gate_bits};
 use x64_decode::Instr;
 
 /// The flat address of gate 0. Gate k stands at 16 k behind it.
@@ -40,7 +40,7 @@ pub fn call_target(p: &Placed) -> Option<u64>
 
 /// The bits of what an item calls, as in a call word: of a direct call those of the procedure or the gate at its target, of a
 /// call unit its own. `None` exactly where a direct call has a bad target, and for every item that calls nothing.
-pub fn callee(items: &[Placed], numbers: &ItemNumbers, p: &Placed) -> Option<u8>
+pub fn callee(items: &[Placed], numbers: &ItemNumbers<'_>, p: &Placed) -> Option<u8>
     requires numbers { NumbersItems items.now (number_at numbers.now) }
     requires eight { AreEight items.now }
     requires apart { StandApart items.now }
@@ -59,7 +59,7 @@ pub fn callee(items: &[Placed], numbers: &ItemNumbers, p: &Placed) -> Option<u8>
 }
 
 /// The bits of the procedure whose call word ends at a flat address.
-fn procedure_at(items: &[Placed], numbers: &ItemNumbers, target: u64) -> Option<u8>
+fn procedure_at(items: &[Placed], numbers: &ItemNumbers<'_>, target: u64) -> Option<u8>
     requires numbers { NumbersItems items.now (number_at numbers.now) }
     requires eight { AreEight items.now }
     requires apart { StandApart items.now }

@@ -15,14 +15,11 @@ use crate::label::{Label, entry_label, left_by, return_label};
 use crate::places::{ItemNumbers, item_numbers};
 use crate::worklist::{Worklist, join};
 use code_sweep::{Item, Listing, Placed};
-use cv_word::{NoMemory, Steps};
+use cv_word::{CODE_BASE, NoMemory, Steps};
 use std::alloc::Global;
 use std::marker::Model;
 use std::sync::ledger::Ledger;
 use x64_decode::Instr;
-
-/// The flat address of a code's first byte.
-pub const CODE_BASE: u64 = 0x1_0000;
 
 /// A label for each item of a listing, by the item's number from 0.
 #[derive(Drop)]
@@ -139,7 +136,7 @@ fn word_label(item: &Item) -> Label
 fn settle<L: Ledger>(
     w: &mut Worklist,
     items: &[Placed],
-    numbers: &ItemNumbers,
+    numbers: &ItemNumbers<'_>,
     steps: &mut Steps<L>,
 )
     requires sound { IsSound items.now (state_of w.old) }
@@ -161,7 +158,7 @@ fn settle<L: Ledger>(
 fn hand_on<L: Ledger>(
     w: &mut Worklist,
     items: &[Placed],
-    numbers: &ItemNumbers,
+    numbers: &ItemNumbers<'_>,
     i: usize,
     steps: &mut Steps<L>,
 )
@@ -219,7 +216,7 @@ fn falls_through(item: &Item) -> bool
 }
 
 /// The number of the item at a jump's target.
-fn target_number(numbers: &ItemNumbers, p: &Placed) -> Option<u32>
+fn target_number(numbers: &ItemNumbers<'_>, p: &Placed) -> Option<u32>
     ensures found { (place : ℕ) → jump_target p.now ≡ Some (code_base + place) → result ≡ number_at numbers.now place }
     ensures only { (j : ℕ) → result ≡ Some j → (place : ℕ) × (jump_target p.now ≡ Some (code_base + place)) × (number_at numbers.now place ≡ Some j) }
 {

@@ -14,7 +14,7 @@ use crate::registers::{
     get, low_byte, low_half, offset, set, set_flags, set_result, set_with_flags, target, widen,
 };
 use crate::two_segments::Segments;
-use cv_word::{Flags, Registers, sext};
+use cv_word::{CODE_BASE, Flags, Registers, sext};
 use x64_decode::{Instr, Mem, Reg, ShiftOp, Width, decode};
 
 /// The flags after a multiplication, a division or a shift.
@@ -24,9 +24,6 @@ const NO_FLAGS: Flags = Flags {
     cf: false,
     of: false,
 };
-
-/// The first flat address of the code.
-const CODE: u64 = 0x1_0000;
 
 /// One step of a core: the instruction at its program counter takes effect. None where the core goes on. A fault
 /// changes nothing: Memory where the program counter is not in the code, Undefined where no instruction stands there,
@@ -40,7 +37,7 @@ pub fn step(regs: &mut Registers, segs: &mut Segments<'_>) -> Option<FaultKind>
     if !in_code(code, at) {
         return Some(FaultKind::Memory);
     }
-    match decode(code, (at - CODE) as usize) {
+    match decode(code, (at - CODE_BASE) as usize) {
         None => Some(FaultKind::Undefined),
         Some((i, length)) => execute(i, at + length as u64, regs, segs),
     }
@@ -50,7 +47,7 @@ pub fn step(regs: &mut Registers, segs: &mut Segments<'_>) -> Option<FaultKind>
 fn in_code(code: &[u8], at: u64) -> bool
     ensures { result ≡ is_in_code (length code.now) at }
 {
-    CODE <= at && at - CODE < code.len() as u64
+    CODE_BASE <= at && at - CODE_BASE < code.len() as u64
 }
 
 /// Lets an instruction take effect, where the next instruction stands at the flat address `next`. None where the core

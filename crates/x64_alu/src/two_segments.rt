@@ -9,22 +9,13 @@ ghost use Rattle.cv_word.specs.MemoryMap.{code_base, is_mapped};
 ghost use Rattle.x64_alu.specs.Memory.{loaded, stored, flat_loaded, flat_stored, padded, start_memory};
 ghost use Rattle.x64_alu.specs.CoreStep.{byte_count};
 
-use cv_word::{NoMemory, le32, le64, put_le};
+use cv_word::{CODE_BASE, NoMemory, PRIVATE_BASE, PUBLIC_BASE, le32, le64, put_le};
 use std::alloc::Global;
 use std::marker::Model;
 use x64_decode::{Seg, Width};
 
 /// The first mapped offset of a segment.
 const FIRST: usize = 4096;
-
-/// The first flat address of the code.
-const CODE: u64 = 0x1_0000;
-
-/// The first flat address of the public segment.
-const PUBLIC: u64 = 0x2_0000_0000;
-
-/// The first flat address of the private segment.
-const PRIVATE: u64 = 0x4_0000_0000;
 
 /// The code and both segments, which have one size of 4,096 to 67,108,864 bytes.
 #[derive(Drop)]
@@ -131,11 +122,11 @@ impl<'a> Segments<'a> {
         ensures { result ≡ flat_loaded self.now at }
     {
         if in_code(self.code, at) {
-            Some(le64(self.code, (at - CODE) as usize))
-        } else if in_segment(self.size, PUBLIC, at) {
-            Some(le64(&self.public, (at - PUBLIC) as usize))
-        } else if in_segment(self.size, PRIVATE, at) {
-            Some(le64(&self.private, (at - PRIVATE) as usize))
+            Some(le64(self.code, (at - CODE_BASE) as usize))
+        } else if in_segment(self.size, PUBLIC_BASE, at) {
+            Some(le64(&self.public, (at - PUBLIC_BASE) as usize))
+        } else if in_segment(self.size, PRIVATE_BASE, at) {
+            Some(le64(&self.private, (at - PRIVATE_BASE) as usize))
         } else {
             None
         }
@@ -148,11 +139,11 @@ impl<'a> Segments<'a> {
         ensures mapped { result ≡ is_some (flat_stored self.old at v) }
         ensures after { self.new ≡ unwrap_or (flat_stored self.old at v) self.old }
     {
-        if in_segment(self.size, PUBLIC, at) {
-            put_le(&mut self.public, (at - PUBLIC) as usize, 8, v);
+        if in_segment(self.size, PUBLIC_BASE, at) {
+            put_le(&mut self.public, (at - PUBLIC_BASE) as usize, 8, v);
             true
-        } else if in_segment(self.size, PRIVATE, at) {
-            put_le(&mut self.private, (at - PRIVATE) as usize, 8, v);
+        } else if in_segment(self.size, PRIVATE_BASE, at) {
+            put_le(&mut self.private, (at - PRIVATE_BASE) as usize, 8, v);
             true
         } else {
             false
@@ -222,7 +213,7 @@ fn in_segment(size: usize, base: u64, at: u64) -> bool
 fn in_code(code: &[u8], at: u64) -> bool
     ensures { result ≡ (nat_le code_base at && nat_le (at + 8) (code_base + length code.now)) }
 {
-    CODE <= at && at - CODE + 8 <= code.len() as u64
+    CODE_BASE <= at && at - CODE_BASE + 8 <= code.len() as u64
 }
 
 /// The number in the bytes from a place.

@@ -4,16 +4,10 @@ ghost use Rattle.std.specs.Prelude.{◌≡◌, ◌<◌, ◌≤◌, length, IfOk}
 ghost use Rattle.conf_verify.specs.Answer.{image_of};
 ghost use Rattle.x64_machine.specs.Start.{start_registers, start_cores};
 
-use cv_word::{Flags, NoMemory, Registers};
+use cv_word::{CODE_BASE, Flags, NoMemory, PUBLIC_BASE, Registers};
 use image_form::Parts;
 use std::alloc::Global;
 use x64_decode::Reg;
-
-/// The first flat address of the code.
-const CODE: u64 = 0x1_0000;
-
-/// The first flat address of the public segment.
-const PUBLIC: u64 = 0x2_0000_0000;
 
 /// The flags at the start.
 const NO_FLAGS: Flags = Flags {
@@ -56,10 +50,10 @@ fn first_registers(parts: &Parts<'_>, i: usize, entry: u32) -> Registers
 {
     let mut r = [0; 16];
     let above = i as u64 * parts.stack_size as u64;
-    r[Reg::Rsp as usize] = PUBLIC + (parts.seg_size as u64).saturating_sub(above);
+    r[Reg::Rsp as usize] = PUBLIC_BASE + (parts.seg_size as u64).saturating_sub(above);
     Registers {
         r,
         flags: NO_FLAGS,
-        pc: CODE + entry as u64,
+        pc: CODE_BASE + entry as u64,
     }
 }
