@@ -1,6 +1,6 @@
 -- What a listing's chain says of its items: their order, and where words stand.
 use Rattle.std.proofs.Common.{◌≡◌, ℕ, zero, suc, ◌+◌, ◌<◌, ◌≤◌, Bool, true, false, List, [], ◌∷◌, ◌++◌, length, take, Option, Some, None, refl, sym, ◌∙◌, ap, subst, arith, inl, inr, slice_get, get_or, not, cond, add-one}
-use Rattle.std.proofs.lemmas.Option.{slice_get-get_or}
+use Rattle.std.proofs.lemmas.Option.{none-some, same_Some, slice_get-get_or}
 use Rattle.std.proofs.lemmas.Bool.{true≢false, cases_lt}
 use Rattle.std.proofs.lemmas.List.{get_or_append_left, get_or_push}
 use Rattle.code_sweep.specs.declared.item.Item.{Item}
@@ -12,12 +12,6 @@ use Rattle.conf_verify.specs.Search.{BadResult, IsBadResult}
 use Rattle.taint_flow.specs.Calls.{call_bits}
 use Rattle.taint_flow.proofs.Chain.{bytes_some}
 use Rattle.std.specs.Option.{option_or}
-
-some_same : {A : Type 0} (x y : A) → Some x ≡ Some y → x ≡ y
-some_same x y e = cc
-
-none_some : {A : Type 0} (x : A) → (let o : Option A = None in o) ≡ Some x → ⊥
-none_some x e = cc
 
 -- an item of a chain: where it stands, and that it has bytes
 pub record IsPlaced (prefix code : List ℕ) (p : Placed) : Type 0 where
@@ -32,25 +26,9 @@ placed_here prefix code from p here long stands =
     record { stands = s; len = long; some = omega arith }
 
 pub chain_placed : (prefix code : List ℕ) (items : List Placed) (from to i : ℕ) (p : Placed) → IsChain prefix code items from to → slice_get items i ≡ Some p → IsPlaced prefix code p
-chain_placed prefix code [] from to i p chain e = absurd (none_some p e)
-chain_placed prefix code (q ∷ qs) from to zero p chain e = subst (λ (x : Placed). IsPlaced prefix code x) (some_same q p e) (placed_here prefix code from q chain.0 chain.1 chain.2)
+chain_placed prefix code [] from to i p chain e = absurd (none-some p e)
+chain_placed prefix code (q ∷ qs) from to zero p chain e = subst (λ (x : Placed). IsPlaced prefix code x) (same_Some q p e) (placed_here prefix code from q chain.0 chain.1 chain.2)
 chain_placed prefix code (q ∷ qs) from to (suc i) p chain e = chain_placed prefix code qs (from + q.len) to i p chain.3 e
-
--- no item stands before where its chain begins
-chain_low : (prefix code : List ℕ) (items : List Placed) (from to i : ℕ) (p : Placed) → IsChain prefix code items from to → slice_get items i ≡ Some p → from ≤ p.at
-chain_low prefix code [] from to i p chain e = absurd (none_some p e)
-chain_low prefix code (q ∷ qs) from to zero p chain e = let h = ap (λ (x : Placed). x.at) (some_same q p e) in let g = chain.0 in omega arith
-chain_low prefix code (q ∷ qs) from to (suc i) p chain e = let h = chain_low prefix code qs (from + q.len) to i p chain.3 e in omega arith
-
--- a later item stands at a higher place
-pub chain_rising : (prefix code : List ℕ) (items : List Placed) (from to i j : ℕ) (p q : Placed) → IsChain prefix code items from to → slice_get items i ≡ Some p → slice_get items j ≡ Some q → i < j → p.at < q.at
-chain_rising prefix code [] from to i j p q chain e f h = absurd (none_some p e)
-chain_rising prefix code (x ∷ xs) from to i zero p q chain e f h = absurd (omega arith)
-chain_rising prefix code (x ∷ xs) from to zero (suc j) p q chain e f h =
-    let same = ap (λ (y : Placed). y.at) (some_same x p e) in let here = chain.0 in
-    let low = chain_low prefix code xs (from + x.len) to j q chain.3 f in
-    let some = (placed_here prefix code from x chain.0 chain.1 chain.2).some in omega arith
-chain_rising prefix code (x ∷ xs) from to (suc i) (suc j) p q chain e f h = chain_rising prefix code xs (from + x.len) to i j p q chain.3 e f (omega arith)
 
 -- ---- counts of the first so many items
 
@@ -60,9 +38,9 @@ cons_assoc a b c = omega arith
 -- one more item counts as a call word, or not
 pub call_words_more : (items : List Placed) (i : ℕ) (p : Placed) → slice_get items i ≡ Some p →
     call_words (take (suc i) items) ≡ call_words (take i items) + cond (is_call_word p.item) 1 0
-call_words_more [] i p e = absurd (none_some p e)
+call_words_more [] i p e = absurd (none-some p e)
 call_words_more (x ∷ xs) zero p e =
-    let same : is_call_word x.item ≡ is_call_word p.item = ap (λ (y : Placed). is_call_word y.item) (some_same x p e) in
+    let same : is_call_word x.item ≡ is_call_word p.item = ap (λ (y : Placed). is_call_word y.item) (same_Some x p e) in
     rw same (omega arith)
 call_words_more (x ∷ xs) (suc i) p e =
     let h : call_words (take (suc i) xs) ≡ call_words (take i xs) + cond (is_call_word p.item) 1 0 = call_words_more xs i p e in
@@ -70,9 +48,9 @@ call_words_more (x ∷ xs) (suc i) p e =
 
 pub other_items_more : (items : List Placed) (i : ℕ) (p : Placed) → slice_get items i ≡ Some p →
     other_items (take (suc i) items) ≡ other_items (take i items) + cond (is_word p.item) 0 1
-other_items_more [] i p e = absurd (none_some p e)
+other_items_more [] i p e = absurd (none-some p e)
 other_items_more (x ∷ xs) zero p e =
-    let same : is_word x.item ≡ is_word p.item = ap (λ (y : Placed). is_word y.item) (some_same x p e) in
+    let same : is_word x.item ≡ is_word p.item = ap (λ (y : Placed). is_word y.item) (same_Some x p e) in
     rw same (omega arith)
 other_items_more (x ∷ xs) (suc i) p e =
     let h : other_items (take (suc i) xs) ≡ other_items (take i xs) + cond (is_word p.item) 0 1 = other_items_more xs i p e in
@@ -128,9 +106,9 @@ or_assoc (Some x) b c = refl
 
 pub last_bits_more : (items : List Placed) (i : ℕ) (p : Placed) → slice_get items i ≡ Some p →
     last_bits (take (suc i) items) ≡ option_or (call_bits p.item) (last_bits (take i items))
-last_bits_more [] i p e = absurd (none_some p e)
+last_bits_more [] i p e = absurd (none-some p e)
 last_bits_more (x ∷ xs) zero p e =
-    ap (λ (y : Placed). call_bits y.item) (some_same x p e) ∙ sym (or_none (call_bits p.item))
+    ap (λ (y : Placed). call_bits y.item) (same_Some x p e) ∙ sym (or_none (call_bits p.item))
 last_bits_more (x ∷ xs) (suc i) p e =
     ap (λ o. option_or o (call_bits x.item)) (last_bits_more xs i p e) ∙ or_assoc (call_bits p.item) (last_bits (take i xs)) (call_bits x.item)
 
@@ -161,5 +139,5 @@ result_found items i d procedure inside e bad =
 pub result_fine : (items : List Placed) (i : ℕ) (d : Placed) (procedure : Option ℕ) → i < length items → procedure ≡ last_bits (take (suc i) items) →
     (IsBadResult (get_or items i d).item procedure → ⊥) → BadResult items i → ⊥
 result_fine items i d procedure inside e fine bad =
-    let same = some_same bad.0 (get_or items i d) (sym bad.3 ∙ slice_get-get_or items i d inside) in
+    let same = same_Some bad.0 (get_or items i d) (sym bad.3 ∙ slice_get-get_or items i d inside) in
     fine (bad.1, bad.2, ap (λ (x : Placed). x.item) (sym same) ∙ bad.4, e ∙ bad.5, bad.6)

@@ -1,7 +1,7 @@
 -- From the first item that breaks a rule under the least labels to the verdict, and to acceptance.
 use Rattle.std.proofs.Common.{◌≡◌, ◌≢◌, ℕ, ◌+◌, ◌<◌, Bool, true, false, ◌||◌, ◌&&◌, not, eqb, List, length, Option, Some, None, refl, sym, ◌∙◌, ap, subst, arith, ◌⊎◌, inl, inr, slice_get}
 use Rattle.std.proofs.lemmas.Bool.{cases_order, true≢false, and_parts, and_from}
-use Rattle.std.proofs.lemmas.Option.{slice_get_within}
+use Rattle.std.proofs.lemmas.Option.{same_Some, slice_get_within}
 use Rattle.cv_word.specs.MemoryMap.{code_base}
 use Rattle.x64_decode.specs.declared.instr.Reg.TheVariants.{Rax, Rcx, Rdx, Rsi, Rdi}
 use Rattle.x64_decode.specs.declared.instr.Seg.{Seg}
@@ -16,7 +16,8 @@ use Rattle.taint_flow.specs.Label.{Label, IsAtMost, taint, flags}
 use Rattle.taint_flow.specs.Flow.{Labelling, MeetsFlow, memory_of, base_is_private, shows_private, has_private_address, instruction_stores_private, stores_private, instruction_branches_on_private, branches_on_private, instruction_divides_private, divides_private, leaves_rsp_private, passes_private, returns_private}
 use Rattle.taint_flow.specs.Calls.{callee}
 use Rattle.std.specs.Int.{bit_at}
-use Rattle.taint_flow.proofs.Monotone.{left_by_up}
+use Rattle.taint_flow.proofs.Monotone.{left_by_up, or_up}
+use Rattle.taint_flow.proofs.Chain.{order_from_listing}
 use Rattle.image_form.specs.Image.{Image}
 use Rattle.conf_verify.specs.declared.rule.Rule.{Rule}
 use Rattle.conf_verify.specs.declared.rule.Rule.TheVariants.{V2, V10, V11, V12, V13, V14, V15, V16}
@@ -26,28 +27,9 @@ use Rattle.conf_verify.specs.Verdict.{HasListing, Precedes, IsBefore, IsAccepted
 use Rattle.conf_verify.specs.Steps.{IsCodeVerdict}
 use Rattle.conf_verify.proofs.One.{one_chain, no_break}
 use Rattle.conf_verify.proofs.Steps.{comes_before}
-use Rattle.conf_verify.proofs.Chains.{chain_rising}
 use Rattle.conf_verify.proofs.Told.{Seen, seen_break, seen_shape, seen_flow, see, of_listing}
 
-some_same : {A : Type 0} (x y : A) → (let o : Option A = Some x in o) ≡ Some y → x ≡ y
-some_same x y e = cc
-
 -- ---- where more may be private, more breaks
-
-or_cases : (a b : Bool) → (a || b) ≡ true → (a ≡ true) ⊎ (b ≡ true)
-or_cases true b e = inl refl
-or_cases false b e = inr e
-
-or_left : (a b : Bool) → a ≡ true → (a || b) ≡ true
-or_left true b e = refl
-or_left false b e = absurd (true≢false (sym e))
-
-or_right : (a b : Bool) → b ≡ true → (a || b) ≡ true
-or_right true b e = refl
-or_right false b e = e
-
-either_up : (a b c d : Bool) → (a ≡ true → c ≡ true) → (b ≡ true → d ≡ true) → (a || b) ≡ true → (c || d) ≡ true
-either_up a b c d f g e = elim (or_cases a b e) [ inl h ↦ or_left c d (f h) | inr h ↦ or_right c d (g h) ]
 
 base_up : (m : Option Mem) (l k : Label) → IsAtMost l k → base_is_private m l ≡ true → base_is_private m k ≡ true
 base_up None l k h e = e
@@ -82,8 +64,8 @@ branches_up _ l k h e = e
 
 instruction_divides_up : (i : Instr) (l k : Label) → IsAtMost l k → instruction_divides_private i l ≡ true → instruction_divides_private i k ≡ true
 instruction_divides_up (Idiv r) l k h e =
-    either_up (taint l Rax) (taint l Rdx || taint l r) (taint k Rax) (taint k Rdx || taint k r) (h _)
-    (either_up (taint l Rdx) (taint l r) (taint k Rdx) (taint k r) (h _) (h _)) e
+    or_up (taint l Rax) (taint k Rax) (taint l Rdx || taint l r) (taint k Rdx || taint k r) (h _)
+    (or_up (taint l Rdx) (taint k Rdx) (taint l r) (taint k r) (h _) (h _)) e
 instruction_divides_up _ l k h e = e
 
 divides_up : (item : Item) (l k : Label) → IsAtMost l k → divides_private item l ≡ true → divides_private item k ≡ true
@@ -100,9 +82,9 @@ and_up a b c f e = let p = and_parts a b e in and_from c b (f p.0) p.1
 passes_up : (called : Option ℕ) (l k : Label) → IsAtMost l k → passes_private called l ≡ true → passes_private called k ≡ true
 passes_up None l k h e = e
 passes_up (Some bits) l k h e =
-    either_up _ _ _ _
-    (either_up _ _ _ _
-    (either_up _ _ _ _
+    or_up _ _ _ _
+    (or_up _ _ _ _
+    (or_up _ _ _ _
     (and_up (taint l Rdi) (not (eqb (bit_at bits 0) 1)) (taint k Rdi) (h _))
     (and_up (taint l Rsi) (not (eqb (bit_at bits 1) 1)) (taint k Rsi) (h _)))
     (and_up (taint l Rdx) (not (eqb (bit_at bits 2) 1)) (taint k Rdx) (h _)))
@@ -154,8 +136,8 @@ same_place prefix code image items listing i j p q e f same =
     elim (cases_order i j) [
       | inl is ↦ sym is
       | inr h ↦ elim h [
-        | inl later ↦ absurd (let s = chain_rising image.prefix image.code items 0 (length image.code) i j p q listing e f later in omega arith)
-        | inr sooner ↦ absurd (let s = chain_rising image.prefix image.code items 0 (length image.code) j i q p listing f e sooner in omega arith)
+        | inl later ↦ absurd (let s = (order_from_listing image.prefix image.code items listing).rising i j p q e f later in omega arith)
+        | inr sooner ↦ absurd (let s = (order_from_listing image.prefix image.code items listing).rising j i q p f e sooner in omega arith)
       ]
     ]
 
@@ -192,7 +174,7 @@ pub told_flow : (image : Image) (items : List Placed) (labels : Labelling) → H
     ((other : Rule) (place : ℕ) → BreaksShape other image items place → ⊥) →
     (i : ℕ) (p : Placed) (rule : Rule) → slice_get items i ≡ Some p → IsLeastBroken items labels i rule → IsCodeVerdict image rule (code_base + p.at)
 told_flow image items labels listing meets most shape i p rule e least =
-    let same = some_same least.bad.0 p (sym least.bad.1 ∙ e) in
+    let same = same_Some least.bad.0 p (sym least.bad.1 ∙ e) in
     let bad : item_breaks rule (callee items p) p.item (labels i) ≡ true =
     subst (λ (x : Placed). item_breaks rule (callee items x) x.item (labels i) ≡ true) same least.bad.2 in
     let flow = item_flow_rule rule (callee items p) p.item (labels i) bad in

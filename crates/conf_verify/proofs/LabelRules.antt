@@ -1,7 +1,7 @@
 -- The rules on labels at one item of a listing.
 use Rattle.std.proofs.Common.{◌≡◌, ℕ, ◌<◌, true, false, List, length, get_or, Option, Some, sym, ◌∙◌, ap, slice_get}
 use Rattle.std.proofs.lemmas.Bool.{true≢false}
-use Rattle.std.proofs.lemmas.Option.{get_or_from_slice_get, slice_get-get_or}
+use Rattle.std.proofs.lemmas.Option.{same_Some, get_or_from_slice_get, slice_get-get_or}
 use Rattle.code_sweep.specs.declared.item.Placed.{Placed}
 use Rattle.taint_flow.specs.Label.{Label}
 use Rattle.taint_flow.specs.Bits.{label_of, labelling_of, public_bits}
@@ -23,13 +23,10 @@ bad_here items labels i d called l rule inside e calls bad = (
       ∙ ap (λ (o : Option ℕ). item_breaks rule o (get_or items i d).item (label_of l.bits)) (sym calls) ∙ bad,
 )
 
-some_same : {A : Type 0} (x y : A) → (let o : Option A = Some x in o) ≡ Some y → x ≡ y
-some_same x y e = cc
-
 pub fine_here : (items : List Placed) (labels : List LabelBits) (i : ℕ) (d : Placed) (called : Option ℕ) (l : LabelBits) (rule : Rule) → i < length items → slice_get labels i ≡ Some l →
     called ≡ callee items (get_or items i d) → item_breaks rule called (get_or items i d).item (label_of l.bits) ≡ false → BadLabel items (labelling_of labels) rule i → ⊥
 fine_here items labels i d called l rule inside e calls fine bad =
-    let same = some_same bad.0 (get_or items i d) (sym bad.1 ∙ slice_get-get_or items i d inside) in
+    let same = same_Some bad.0 (get_or items i d) (sym bad.1 ∙ slice_get-get_or items i d inside) in
     true≢false (sym bad.2 ∙ ap (λ (x : Placed). item_breaks rule (callee items x) x.item (labelling_of labels i)) same
     ∙ ap (λ (m : Label). item_breaks rule (callee items (get_or items i d)) (get_or items i d).item m) (label_same labels i l e)
     ∙ ap (λ (o : Option ℕ). item_breaks rule o (get_or items i d).item (label_of l.bits)) (sym calls) ∙ fine)

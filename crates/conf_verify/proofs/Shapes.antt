@@ -1,28 +1,22 @@
 -- Items by their places, and what the searches over a listing found.
 use Rattle.std.proofs.Common.{◌≡◌, ℕ, ◌-◌, ◌<◌, ◌≤◌, true, false, List, length, get_or, Option, Some, None, sym, ◌∙◌, ap, subst, arith, slice_get, not}
 use Rattle.std.proofs.lemmas.Bool.{true≢false, not-true, not-false}
-use Rattle.std.proofs.lemmas.Option.{slice_get_within, get_or_from_slice_get, slice_get-get_or}
+use Rattle.std.proofs.lemmas.Option.{none-some, same_Some, slice_get_within, get_or_from_slice_get, slice_get-get_or}
 use Rattle.cv_word.specs.MemoryMap.{code_base}
 use Rattle.code_sweep.specs.declared.item.Placed.{Placed}
 use Rattle.taint_flow.specs.Places.{NumbersItems}
 use Rattle.conf_verify.specs.Rules.{is_word, is_call_word, procedure_of, IsGoodTarget, FollowsCallWord}
 use Rattle.conf_verify.specs.Search.{BeginsAt, AreProcedures, HasWord}
 
-none_some : {A : Type 0} (x : A) → (let o : Option A = None in o) ≡ Some x → ⊥
-none_some x e = cc
-
-some_same : {A : Type 0} (x y : A) → (let o : Option A = Some x in o) ≡ Some y → x ≡ y
-some_same x y e = cc
-
 -- no number at the place: no item begins there
 pub no_number : (items : List Placed) (number : ℕ → Option ℕ) (place : ℕ) → NumbersItems items number → (let o : Option ℕ = None in o) ≡ number place →
     (j : ℕ) (q : Placed) → slice_get items j ≡ Some q → q.at ≡ place → ⊥
-no_number items number place n e j q stands here = none_some j (e ∙ ap number (sym here) ∙ n.each j q stands)
+no_number items number place n e j q stands here = none-some j (e ∙ ap number (sym here) ∙ n.each j q stands)
 
 -- a number at the place: that item begins there, and no other
 pub this_number : (items : List Placed) (number : ℕ → Option ℕ) (place k : ℕ) → NumbersItems items number → (let o : Option ℕ = Some k in o) ≡ number place →
     (j : ℕ) (q : Placed) → slice_get items j ≡ Some q → q.at ≡ place → j ≡ k
-this_number items number place k n e j q stands here = sym (some_same k j (e ∙ ap number (sym here) ∙ n.each j q stands))
+this_number items number place k n e j q stands here = sym (same_Some k j (e ∙ ap number (sym here) ∙ n.each j q stands))
 
 pub found_item : (items : List Placed) (number : ℕ → Option ℕ) (place k : ℕ) (d : Placed) → NumbersItems items number → (let o : Option ℕ = Some k in o) ≡ number place → BeginsAt items (get_or items k d) place
 found_item items number place k d n e =
@@ -91,11 +85,11 @@ word_yes items q place low b word = (b.0, q, b.1, word, let h = b.2 in omega ari
 pub word_no : (items : List Placed) (q : Placed) (place : ℕ) → ((j : ℕ) (x : Placed) → slice_get items j ≡ Some x → x.at ≡ place - 2 → (let o : Option Placed = Some q in o) ≡ Some x) →
     is_word q.item ≡ false → HasWord items place → ⊥
 word_no items q place only word h =
-    let same = some_same q h.1 (only h.0 h.1 h.2 (let e = h.4 in omega arith)) in
+    let same = same_Some q h.1 (only h.0 h.1 h.2 (let e = h.4 in omega arith)) in
     true≢false (sym h.3 ∙ ap (λ (x : Placed). is_word x.item) (sym same) ∙ word)
 
 pub word_none : (items : List Placed) (place : ℕ) → ((j : ℕ) (x : Placed) → slice_get items j ≡ Some x → x.at ≡ place - 2 → (let o : Option Placed = None in o) ≡ Some x) → HasWord items place → ⊥
-word_none items place only h = none_some h.1 (only h.0 h.1 h.2 (let e = h.4 in omega arith))
+word_none items place only h = none-some h.1 (only h.0 h.1 h.2 (let e = h.4 in omega arith))
 
 abbrev pub CallsHaveEight : List Placed → Type 0
 CallsHaveEight items = (i : ℕ) (p : Placed) → slice_get items i ≡ Some p → is_call_word p.item ≡ true → p.len ≡ 8
@@ -106,12 +100,12 @@ entry_yes items q entry low eight b call = (b.0, q, b.1, call, let h = b.2 in le
 pub entry_no : (items : List Placed) (q : Placed) (entry : ℕ) → CallsHaveEight items →
     ((j : ℕ) (x : Placed) → slice_get items j ≡ Some x → x.at ≡ entry - 8 → (let o : Option Placed = Some q in o) ≡ Some x) → is_call_word q.item ≡ false → FollowsCallWord items entry → ⊥
 entry_no items q entry eight only call h =
-    let same = some_same q h.1 (only h.0 h.1 h.2 (let e = h.4 in let g = eight h.0 h.1 h.2 h.3 in omega arith)) in
+    let same = same_Some q h.1 (only h.0 h.1 h.2 (let e = h.4 in let g = eight h.0 h.1 h.2 h.3 in omega arith)) in
     true≢false (sym h.3 ∙ ap (λ (x : Placed). is_call_word x.item) (sym same) ∙ call)
 
 pub entry_none : (items : List Placed) (entry : ℕ) → CallsHaveEight items →
     ((j : ℕ) (x : Placed) → slice_get items j ≡ Some x → x.at ≡ entry - 8 → (let o : Option Placed = None in o) ≡ Some x) → FollowsCallWord items entry → ⊥
-entry_none items entry eight only h = none_some h.1 (only h.0 h.1 h.2 (let e = h.4 in let g = eight h.0 h.1 h.2 h.3 in omega arith))
+entry_none items entry eight only h = none-some h.1 (only h.0 h.1 h.2 (let e = h.4 in let g = eight h.0 h.1 h.2 h.3 in omega arith))
 
 pub entry_low : (items : List Placed) (entry : ℕ) → CallsHaveEight items → entry < 8 → FollowsCallWord items entry → ⊥
 entry_low items entry eight low h = let e = h.4 in let g = eight h.0 h.1 h.2 h.3 in omega arith

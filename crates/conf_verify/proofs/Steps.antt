@@ -1,8 +1,8 @@
 -- From what each search over a listing found to the verdict on the code, rule by rule.
-use Rattle.std.proofs.Common.{◌≡◌, ℕ, zero, suc, ◌+◌, ◌<◌, true, false, List, [], ◌∷◌, length, take, get_or, slice_index, Option, Some, None, refl, sym, ◌∙◌, ap, subst, arith, ◌⊎◌, inl, inr, slice_get}
+use Rattle.std.proofs.Common.{◌≡◌, ℕ, zero, suc, ◌+◌, ◌<◌, true, false, List, [], ◌∷◌, length, take, get_or, slice_index, Some, None, refl, sym, ◌∙◌, ap, subst, arith, ◌⊎◌, inl, inr, slice_get}
 use Rattle.std.proofs.lemmas.Bool.{cases_order, cases_lt, cases_Bool, true≢false}
 use Rattle.std.proofs.lemmas.List.{drop_all}
-use Rattle.std.proofs.lemmas.Option.{slice_get_within, slice_get-get_or}
+use Rattle.std.proofs.lemmas.Option.{same_Some, slice_get_within, slice_get-get_or}
 use Rattle.cv_word.specs.MemoryMap.{code_base}
 use Rattle.x64_decode.specs.declared.instr.Instr.TheVariants as instr
 use Rattle.magic_words.specs.MagicWords.{IsOccurrence, AreOccurrences}
@@ -21,22 +21,16 @@ use Rattle.conf_verify.specs.Search.{BadEnd, BadReturn, BadJump, BadCall, BadRes
 use Rattle.conf_verify.specs.Verdict.{HasListing}
 use Rattle.conf_verify.specs.Steps.{IsCodeVerdict, HoldsBelow}
 use Rattle.conf_verify.proofs.Order.{same_number}
-use Rattle.conf_verify.proofs.Chains.{chain_rising}
+use Rattle.taint_flow.proofs.Chain.{order_from_listing}
 use Rattle.conf_verify.proofs.Told.{told_shape}
-
-some_same : {A : Type 0} (x y : A) → (let o : Option A = Some x in o) ≡ Some y → x ≡ y
-some_same x y e = cc
-
-none_some : {A : Type 0} (x : A) → (let o : Option A = None in o) ≡ Some x → ⊥
-none_some x e = cc
 
 -- an item at a lower place comes before
 pub comes_before : (prefix code : List ℕ) (items : List Placed) (i j : ℕ) (p q : Placed) → IsChain prefix code items 0 (length code) → slice_get items i ≡ Some p → slice_get items j ≡ Some q →
     q.at < p.at → j < i
 comes_before prefix code items i j p q chain e f low =
     elim (cases_order i j) [
-      | inl same ↦ absurd (let s = ap (λ (x : Placed). x.at) (some_same p q (sym e ∙ ap (λ k. slice_get items k) same ∙ f)) in omega arith)
-      | inr h ↦ elim h [ inl later ↦ absurd (let s = chain_rising prefix code items 0 (length code) i j p q chain e f later in omega arith) | inr before ↦ before ]
+      | inl same ↦ absurd (let s = ap (λ (x : Placed). x.at) (same_Some p q (sym e ∙ ap (λ k. slice_get items k) same ∙ f)) in omega arith)
+      | inr h ↦ elim h [ inl later ↦ absurd (let s = (order_from_listing prefix code items chain).rising i j p q e f later in omega arith) | inr before ↦ before ]
     ]
 
 -- the first bad item is at the least bad place
@@ -156,7 +150,7 @@ by_ends image items = record {
     p,
     e,
     refl,
-    subst (λ (x : Placed). ((i ≡ 0) × (is_call_word x.item ≡ false)) ⊎ (IsLast items i × (may_end x.item ≡ false))) (some_same bad.0 p (sym bad.1 ∙ e)) bad.2,
+    subst (λ (x : Placed). ((i ≡ 0) × (is_call_word x.item ≡ false)) ⊎ (IsLast items i × (may_end x.item ≡ false))) (same_Some bad.0 p (sym bad.1 ∙ e)) bad.2,
   );
   from = λ place b. (b.0, b.1, b.2, b.3, (b.1, b.2, b.4));
 }
@@ -168,26 +162,26 @@ ReturnsBadly items i p =
 
 pub by_returns : (image : Image) (items : List Placed) → ByItem image items V5 (BadReturn items)
 by_returns image items = record {
-  to = λ i p e bad. (i, p, e, refl, subst (λ (x : Placed). ReturnsBadly items i x) (some_same bad.0 p (sym bad.1 ∙ e)) bad.2);
+  to = λ i p e bad. (i, p, e, refl, subst (λ (x : Placed). ReturnsBadly items i x) (same_Some bad.0 p (sym bad.1 ∙ e)) bad.2);
   from = λ place b. (b.0, b.1, b.2, b.3, (b.1, b.2, b.4));
 }
 
 pub by_jumps : (image : Image) (items : List Placed) → ByItem image items V6 (BadJump items)
 by_jumps image items = record {
-  to = λ i p e bad. (i, p, bad.1, e, refl, subst (λ (x : Placed). jump_target x ≡ Some bad.1) (some_same bad.0 p (sym bad.2 ∙ e)) bad.3, bad.4);
+  to = λ i p e bad. (i, p, bad.1, e, refl, subst (λ (x : Placed). jump_target x ≡ Some bad.1) (same_Some bad.0 p (sym bad.2 ∙ e)) bad.3, bad.4);
   from = λ place b. (b.0, b.1, b.3, b.4, (b.1, b.2, b.3, b.5, b.6));
 }
 
 pub by_calls : (image : Image) (items : List Placed) → ByItem image items V7 (BadCall items)
 by_calls image items = record {
-  to = λ i p e bad. let same = some_same bad.0 p (sym bad.2 ∙ e) in
+  to = λ i p e bad. let same = same_Some bad.0 p (sym bad.2 ∙ e) in
       (i, p, bad.1, e, refl, subst (λ (x : Placed). call_target x ≡ Some bad.1) same bad.3, subst (λ (x : Placed). callee items x ≡ None) same bad.4);
   from = λ place b. (b.0, b.1, b.3, b.4, (b.1, b.2, b.3, b.5, b.6));
 }
 
 pub by_results : (image : Image) (items : List Placed) → ByItem image items V8 (BadResult items)
 by_results image items = record {
-  to = λ i p e bad. (i, p, bad.1, bad.2, e, refl, subst (λ (x : Placed). x.item ≡ ReturnUnit bad.1) (some_same bad.0 p (sym bad.3 ∙ e)) bad.4, bad.5, bad.6);
+  to = λ i p e bad. (i, p, bad.1, bad.2, e, refl, subst (λ (x : Placed). x.item ≡ ReturnUnit bad.1) (same_Some bad.0 p (sym bad.3 ∙ e)) bad.4, bad.5, bad.6);
   from = λ place b. (b.0, b.1, b.4, b.5, (b.1, b.2, b.3, b.4, b.6, b.7, b.8));
 }
 
@@ -262,7 +256,7 @@ no_prefix image items places good are none place b =
 
 -- of one entry there is the first alone
 one_only : (entries : List ℕ) (n entry other : ℕ) → length entries ≡ 1 → slice_get entries 0 ≡ Some entry → slice_get entries n ≡ Some other → entry ≡ other
-one_only entries zero entry other one e f = some_same entry other (sym e ∙ f)
+one_only entries zero entry other one e f = same_Some entry other (sym e ∙ f)
 one_only entries (suc n) entry other one e f = absurd (let h = slice_get_within entries (suc n) other f in omega arith)
 
 pub told_entry : (image : Image) (items : List Placed) (entry : ℕ) → HasListing image items → length image.entries ≡ 1 → slice_get image.entries 0 ≡ Some entry → (FollowsCallWord items entry → ⊥) →

@@ -71,7 +71,11 @@ fn item_broken(item: &Item, called: Option<u8>, l: Label) -> Option<Rule>
 }
 
 /// The first item that breaks a rule on labels, and the lowest that it breaks.
-pub fn bad_label(items: &[Placed], numbers: &ItemNumbers<'_>, labels: &Labels) -> Option<(usize, Rule)>
+pub fn bad_label(
+    items: &[Placed],
+    numbers: &ItemNumbers<'_>,
+    labels: &Labels,
+) -> Option<(usize, Rule)>
     requires numbers { NumbersItems items.now (number_at numbers.now) }
     requires eight { AreEight items.now }
     requires apart { StandApart items.now }

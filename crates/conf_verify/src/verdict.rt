@@ -16,8 +16,8 @@ ghost use Rattle.conf_verify.specs.Answer.{Checked, image_of, checked_of, HasCou
 use crate::calls::{bad_call, bad_result, bad_return};
 use crate::rule::Rule;
 use crate::shape::{
-    bad_end, bad_jump, bad_occurrence, follows_call_word, is_call_word, is_word,
-    one_where, procedure_numbers,
+    bad_end, bad_jump, bad_occurrence, follows_call_word, is_call_word, is_word, one_where,
+    procedure_numbers,
 };
 use crate::taint::{bad_label, least_labels};
 use code_sweep::{Listing, Placed, SweepError, sweep};

@@ -3,7 +3,7 @@ use Rattle.std.proofs.Common.{◌≡◌, ◌≢◌, ℕ, zero, suc, ◌+◌, ◌
 use Rattle.std.specs.Option.{option_or}
 use Rattle.std.proofs.lemmas.List.{drop-drop}
 use Rattle.std.proofs.lemmas.Bool.{cond-true, cond-false, ne_eqb, cases_Bool, cases_eq, false_from_ne_true, and_from, and_parts, true≢false, eqb-true, leb-true, eq-eqb, not-true, not_from_false}
-use Rattle.std.proofs.lemmas.Option.{slice_get_within, slice_get-get_or}
+use Rattle.std.proofs.lemmas.Option.{none-some, same_Some, slice_get_within, slice_get-get_or}
 use Rattle.x64_decode.specs.declared.instr.Instr.{Instr}
 use Rattle.code_sweep.specs.declared.item.Item.{Item}
 use Rattle.code_sweep.specs.declared.item.Item.TheVariants.{Call, Ret, Plain, ReturnUnit, CallUnit}
@@ -35,18 +35,12 @@ pub record Facts (prefix code : List ℕ) (items : List Placed) (labels : Labell
   pub meets : MeetsFlow items labels
   pub flow : (rule : Rule) (place : ℕ) → BreaksUnder rule items labels place → ⊥
 
-some_same : {A : Type 0} (x y : A) → Some x ≡ Some y → x ≡ y
-some_same x y e = cc
-
-none_some : {A : Type 0} (x : A) → (let o : Option A = None in o) ≡ Some x → ⊥
-none_some x e = cc
-
 -- an item of a chain stands at its place, with its length
 pub chain_item : (prefix code : List ℕ) (items : List Placed) (from to i : ℕ) (p : Placed) → IsChain prefix code items from to → slice_get items i ≡ Some p →
     StandsAt prefix code p.at p.item × (p.len ≡ length (item_bytes prefix p.item))
-chain_item prefix code [] from to i p chain e = absurd (none_some p e)
+chain_item prefix code [] from to i p chain e = absurd (none-some p e)
 chain_item prefix code (q ∷ qs) from to zero p chain e =
-    let same = some_same q p e in
+    let same = same_Some q p e in
     let P : Placed → Type 0 = λ x. StandsAt prefix code x.at x.item × (x.len ≡ length (item_bytes prefix x.item)) in
     let Q : ℕ → Type 0 = λ x. StandsAt prefix code x q.item in
     subst P same (subst Q (sym chain.0) chain.2, chain.1)
@@ -55,12 +49,12 @@ chain_item prefix code (q ∷ qs) from to (suc i) p chain e = chain_item prefix 
 -- the item behind one begins where that one ends
 pub chain_next : (prefix code : List ℕ) (items : List Placed) (from to i : ℕ) (p q : Placed) → IsChain prefix code items from to →
     slice_get items i ≡ Some p → slice_get items (suc i) ≡ Some q → q.at ≡ p.at + p.len
-chain_next prefix code [] from to i p q chain e f = absurd (none_some p e)
-chain_next prefix code (a ∷ []) from to zero p q chain e f = absurd (none_some q f)
+chain_next prefix code [] from to i p q chain e f = absurd (none-some p e)
+chain_next prefix code (a ∷ []) from to zero p q chain e f = absurd (none-some q f)
 chain_next prefix code (a ∷ (b ∷ rest)) from to zero p q chain e f =
     let P : Placed → Type 0 = λ x. b.at ≡ x.at + x.len in
     let Q : Placed → Type 0 = λ x. x.at ≡ p.at + p.len in
-    subst Q (some_same b q f) (subst P (some_same a p e) (chain.3.0 ∙ ap (λ n. n + a.len) (sym chain.0)))
+    subst Q (same_Some b q f) (subst P (same_Some a p e) (chain.3.0 ∙ ap (λ n. n + a.len) (sym chain.0)))
 chain_next prefix code (a ∷ rest) from to (suc i) p q chain e f = chain_next prefix code rest (from + a.len) to i p q chain.3 e f
 
 -- behind an item that isn't the last stands another
@@ -82,7 +76,7 @@ no_word_of (ReturnUnit bit) e none = refl
 no_word_of (CallUnit r bits) e none = refl
 
 before_suc : (items : List Placed) (i h : ℕ) (p q : Placed) → slice_get items i ≡ Some p → slice_get items h ≡ Some q → suc i ≡ suc h → p ≡ q
-before_suc items i h p q e f same = let at : i ≡ h = omega arith in some_same p q (sym e ∙ ap (λ k. slice_get items k) at ∙ f)
+before_suc items i h p q e f same = let at : i ≡ h = omega arith in same_Some p q (sym e ∙ ap (λ k. slice_get items k) at ∙ f)
 
 pub next_item : (prefix code : List ℕ) (items : List Placed) (labels : Labelling) → Facts prefix code items labels → (i : ℕ) (p : Placed) → slice_get items i ≡ Some p →
     may_end p.item ≡ false → is_call p.item ≡ false → Next items i p
@@ -105,7 +99,7 @@ pub data Found (items : List Placed) (test : ℕ → Placed → Bool) : Type 0 w
 
 none_of_cons : (x : Placed) (xs : List Placed) (test : ℕ → Placed → Bool) → test 0 x ≡ false → ((j : ℕ) (q : Placed) → slice_get xs j ≡ Some q → test (suc j) q ≡ false) →
     (j : ℕ) (q : Placed) → slice_get (x ∷ xs) j ≡ Some q → test j q ≡ false
-none_of_cons x xs test here rest zero q e = ap (test 0) (sym (some_same x q e)) ∙ here
+none_of_cons x xs test here rest zero q e = ap (test 0) (sym (same_Some x q e)) ∙ here
 none_of_cons x xs test here rest (suc j) q e = rest j q e
 
 search_cons : (x : Placed) (xs : List Placed) (test : ℕ → Placed → Bool) → Found xs (λ j. test (suc j)) → (test 0 x ≡ true) ⊎ (test 0 x ≡ false) → Found (x ∷ xs) test
@@ -114,7 +108,7 @@ search_cons x xs test (found j q e passes) (inr not_here) = found (suc j) q e pa
 search_cons x xs test (nowhere none) (inr not_here) = nowhere (none_of_cons x xs test not_here none)
 
 pub search_items : (items : List Placed) (test : ℕ → Placed → Bool) → Found items test
-search_items [] test = nowhere (λ j q e. absurd (none_some q e))
+search_items [] test = nowhere (λ j q e. absurd (none-some q e))
 search_items (x ∷ xs) test = search_cons x xs test (search_items xs (λ j. test (suc j))) (cases_Bool (test 0 x))
 
 -- a jump that breaks no rule has a good target
@@ -273,13 +267,13 @@ procedure_first x xs target bits (inr there) rest e =
 
 procedure_found : (items : List Placed) (target bits : ℕ) → procedure_at items target ≡ Some bits →
     (j : ℕ) × (q : Placed) × (slice_get items j ≡ Some q) × (q.item ≡ Call bits) × (address_after q ≡ target)
-procedure_found [] target bits e = absurd (none_some bits e)
+procedure_found [] target bits e = absurd (none-some bits e)
 procedure_found (x ∷ xs) target bits e = procedure_first x xs target bits (cases_eq (address_after x) target) (procedure_found xs target bits) e
 
 -- the gate at an address
 gate_from : (test : Bool) (target bits : ℕ) → leb 0x1000 target && eqb ((target - 0x1000) % 16) 0 ≡ test → cond test (gate_bits ((target - 0x1000) / 16)) None ≡ Some bits →
     (number : ℕ) × (gate_bits number ≡ Some bits) × (target ≡ gate_address number)
-gate_from false target bits is e = absurd (none_some bits e)
+gate_from false target bits is e = absurd (none-some bits e)
 gate_from true target bits is e =
     let a = and_parts (leb 0x1000 target) (eqb ((target - 0x1000) % 16) 0) is in
     let low : 0x1000 ≤ target = leb-true _ _ a.0 in
@@ -298,7 +292,7 @@ callee_at : (items : List Placed) (o : Option ℕ) (bits target : ℕ) → proce
 callee_at items None bits target is e = let g = gate_found target bits e in gate g.0 g.1 g.2
 callee_at items (Some found_bits) bits target is e =
     let f = procedure_found items target found_bits is in
-    procedure f.0 f.1 f.2 (f.3 ∙ ap Call (some_same found_bits bits e)) f.4
+    procedure f.0 f.1 f.2 (f.3 ∙ ap Call (same_Some found_bits bits e)) f.4
 
 some_or_none : (o : Option ℕ) → ((bits : ℕ) × (o ≡ Some bits)) ⊎ (o ≡ None)
 some_or_none None = inr refl

@@ -1,5 +1,6 @@
 -- The instructions inside a check unit, by its bytes.
 use Rattle.std.proofs.Common.{◌≡◌, ℕ, suc, ◌+◌, ◌-◌, ◌<◌, List, [], ◌∷◌, ◌++◌, length, take, drop, Option, Some, None, refl, sym, ◌∙◌, ap, subst, arith, inl, inr, pos, false, append_assoc, rules, ◌^◌}
+use Rattle.std.proofs.lemmas.Option.{none-some}
 use Rattle.std.proofs.lemmas.Bool.{cases_lt}
 use Rattle.std.proofs.lemmas.List.{drop-drop, take-append-drop, drop_all, length-map}
 use Rattle.cv_word.specs.Words.{AreBytes, little_endian}
@@ -42,14 +43,11 @@ nothing_read : instruction_at [] ≡ None
 unfolding instruction_at read
 nothing_read = refl
 
-none_some : {A : Type 0} (x : A) → (let o : Option A = None in o) ≡ Some x → ⊥
-none_some x e = cc
-
 pub inside_code : (code : List ℕ) (place : ℕ) (i : Instr) → instruction_at (drop place code) ≡ Some i → place < length code
 inside_code code place i e =
     elim (cases_lt place (length code)) [
       | inl inside ↦ inside
-      | inr past ↦ absurd (none_some i (sym nothing_read ∙ ap instruction_at (sym (drop_all place code past)) ∙ e))
+      | inr past ↦ absurd (none-some i (sym nothing_read ∙ ap instruction_at (sym (drop_all place code past)) ∙ e))
     ]
 
 -- the instructions of a check, by their places behind its first byte
@@ -179,9 +177,9 @@ some_pair a c b d e =
 -- the unit at an item whose check is known
 pub unit_at : (prefix code : List ℕ) (place : ℕ) (item : Item) (start : ℕ) (word : List ℕ) → length prefix ≡ 6 → AreBytes prefix → StandsAt prefix code place item →
     check_of prefix item ≡ Some (start, word) → UnitAt prefix code place item start word
-unit_at prefix code place (Call bits) start word six bytes s e = absurd (none_some (start, word) e)
-unit_at prefix code place (Ret bit) start word six bytes s e = absurd (none_some (start, word) e)
-unit_at prefix code place (Plain i) start word six bytes s e = absurd (none_some (start, word) e)
+unit_at prefix code place (Call bits) start word six bytes s e = absurd (none-some (start, word) e)
+unit_at prefix code place (Ret bit) start word six bytes s e = absurd (none-some (start, word) e)
+unit_at prefix code place (Plain i) start word six bytes s e = absurd (none-some (start, word) e)
 unit_at prefix code place (ReturnUnit bit) start word six bytes s e =
     let p = some_pair 17 start (return_word bit prefix) word e in
     let u = (return_parts prefix code place bit six bytes s).unit in

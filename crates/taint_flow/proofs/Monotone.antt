@@ -26,7 +26,8 @@ either_up : (a b x y : Bool) → (a ≡ true → b ≡ true) → (x ≡ true →
 either_up a b x y f g (inl h) = or_left b y (f h)
 either_up a b x y f g (inr h) = or_right b y (g h)
 
-or_up : (a b x y : Bool) → (a ≡ true → b ≡ true) → (x ≡ true → y ≡ true) → (a || x) ≡ true → (b || y) ≡ true
+-- where either holds, and each grows, one holds
+pub or_up : (a b x y : Bool) → (a ≡ true → b ≡ true) → (x ≡ true → y ≡ true) → (a || x) ≡ true → (b || y) ≡ true
 or_up a b x y f g h = either_up a b x y f g (or_cases a x h)
 
 two_up : (l m : Label) (a b : ℕ) → IsAtMost l m → (l a || l b) ≡ true → (m a || m b) ≡ true

@@ -205,5 +205,5 @@ pub nowhere_past : (items : List Placed) (firsts : List ℕ) (place : ℕ) →
     ((i : ℕ) (p : Placed) → slice_get items i ≡ Some p → p.at / 16 < length firsts) → length firsts ≤ place / 16 → number_at items place ≡ None
 nowhere_past items firsts place inside past =
     none_from items 0 place (λ k p less e.
-      let low : p.at / 16 < length firsts = inside k p e in
-      λ same. let there : place / 16 < length firsts = subst (λ (x : ℕ). x / 16 < length firsts) same low in absurd (omega arith))
+    let low : p.at / 16 < length firsts = inside k p e in
+    λ same. let there : place / 16 < length firsts = subst (λ (x : ℕ). x / 16 < length firsts) same low in absurd (omega arith))

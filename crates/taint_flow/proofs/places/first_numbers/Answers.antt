@@ -39,8 +39,8 @@ loop-i-preserved c =
     let read = c.index.ensures ∙ get_or_default_zero c.loop-i.firsts.items _ _ (omega (arith, inside, len)) in
     record {
       len = length-set _ _ _ ∙ len;
-      found = finds_more c.args.items.now c.loop-i.firsts.items c.loop-i.i (get_or c.args.items.now c.loop-i.i nothing) c.min.result here (omega (arith, inside, len)) 
-      (c.min.ensures ∙ ap (λ n. min n c.loop-i.i) read) c.loop-i.invariant.found;
+      found = finds_more c.args.items.now c.loop-i.firsts.items c.loop-i.i (get_or c.args.items.now c.loop-i.i nothing) c.min.result here (omega (arith, inside, len))
+          (c.min.ensures ∙ ap (λ n. min n c.loop-i.i) read) c.loop-i.invariant.found;
     }
 
 pub returns : goal.returns
