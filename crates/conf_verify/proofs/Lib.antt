@@ -1,4 +1,5 @@
 mod Order
+mod Firsts
 mod One
 mod Chains
 mod Shapes

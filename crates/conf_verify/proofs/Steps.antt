@@ -1,5 +1,5 @@
 -- From what each search over a listing found to the verdict on the code, rule by rule.
-use Rattle.std.proofs.Common.{◌≡◌, ℕ, zero, suc, ◌+◌, ◌<◌, true, false, List, [], ◌∷◌, length, take, get_or, slice_index, Some, None, refl, sym, ◌∙◌, ap, subst, arith, ◌⊎◌, inl, inr, slice_get}
+use Rattle.std.proofs.Common.{◌≡◌, ℕ, zero, suc, ◌+◌, ◌<◌, add-one, true, false, List, [], ◌∷◌, length, take, get_or, slice_index, Some, None, refl, sym, ◌∙◌, ap, subst, arith, ◌⊎◌, inl, inr, slice_get}
 use Rattle.std.proofs.lemmas.Bool.{cases_order, cases_lt, cases_Bool, true≢false}
 use Rattle.std.proofs.lemmas.List.{drop_all}
 use Rattle.std.proofs.lemmas.Option.{same_Some, slice_get_within, slice_get-get_or}
@@ -15,9 +15,9 @@ use Rattle.taint_flow.specs.Places.{goes_on, NextStands}
 use Rattle.image_form.specs.Image.{Image, IsGood}
 use Rattle.conf_verify.specs.declared.rule.Rule.{Rule}
 use Rattle.conf_verify.specs.declared.rule.Rule.TheVariants.{V1, V2, V3, V4, V5, V6, V7, V8, V9, V10, V11, V12, V13, V14, V15, V16}
-use Rattle.conf_verify.specs.Rules.{BreaksShape, BreaksEnds, BreaksPrefix, BreaksReturns, BreaksJumps, BreaksCalls, BreaksResults, BreaksEntries, HasReturnWord, fits_result, FollowsCall, FollowsCallWord, IsLast, is_call_word, may_end, is_flow_rule, rule_number}
+use Rattle.conf_verify.specs.Rules.{BreaksShape, BreaksPrefix, BreaksEntries, HasReturnWord, fits_result, FollowsCall, FollowsCallWord, IsLast, is_call_word, may_end, is_flow_rule, rule_number}
 use Rattle.taint_flow.specs.Calls.{callee, call_target, is_call}
-use Rattle.conf_verify.specs.Search.{BadEnd, BadReturn, BadJump, BadCall, BadResult, BadOccurrence}
+use Rattle.conf_verify.specs.Search.{BadBy, BadEnd, BadReturn, BadJump, BadCall, BadResult, BadOccurrence, is_item_rule}
 use Rattle.conf_verify.specs.Verdict.{HasListing}
 use Rattle.conf_verify.specs.Steps.{IsCodeVerdict, HoldsBelow}
 use Rattle.conf_verify.proofs.Order.{same_number}
@@ -71,23 +71,8 @@ none_below image items rule place low b = let some = some_number rule in omega a
 pub holds_three : (image : Image) (items : List Placed) → HoldsBelow image items 3
 holds_three image items = more_holds image items V2 2 refl (more_holds image items V1 1 refl (none_below image items) (λ place b. b)) (λ place b. b)
 
-pub holds_four : (image : Image) (items : List Placed) → ((place : ℕ) → BreaksEnds items place → ⊥) → HoldsBelow image items 4
-holds_four image items none = more_holds image items V3 3 refl (holds_three image items) none
-
 pub holds_five : (image : Image) (items : List Placed) → HoldsBelow image items 4 → ((place : ℕ) → BreaksPrefix image.prefix image.code items place → ⊥) → HoldsBelow image items 5
 holds_five image items below none = more_holds image items V4 4 refl below none
-
-pub holds_six : (image : Image) (items : List Placed) → HoldsBelow image items 5 → ((place : ℕ) → BreaksReturns items place → ⊥) → HoldsBelow image items 6
-holds_six image items below none = more_holds image items V5 5 refl below none
-
-pub holds_seven : (image : Image) (items : List Placed) → HoldsBelow image items 6 → ((place : ℕ) → BreaksJumps items place → ⊥) → HoldsBelow image items 7
-holds_seven image items below none = more_holds image items V6 6 refl below none
-
-pub holds_eight : (image : Image) (items : List Placed) → HoldsBelow image items 7 → ((place : ℕ) → BreaksCalls items place → ⊥) → HoldsBelow image items 8
-holds_eight image items below none = more_holds image items V7 7 refl below none
-
-pub holds_nine : (image : Image) (items : List Placed) → HoldsBelow image items 8 → ((place : ℕ) → BreaksResults items place → ⊥) → HoldsBelow image items 9
-holds_nine image items below none = more_holds image items V8 8 refl below none
 
 -- a rule with another number isn't a rule on shapes
 number_of_last : (rule : Rule) → 9 < rule_number rule → (image : Image) (items : List Placed) (place : ℕ) → BreaksShape rule image items place → ⊥
@@ -133,17 +118,17 @@ told_by_item image items rule Bad i p by listing shape e bad first below =
     least_place image.prefix image.code items Bad i p listing e first f.0 f.1 f.2 (omega arith) f.4)
     below
 
-pub told_at : (image : Image) (items : List Placed) (rule : Rule) (Bad : ℕ → Type 0) (i : ℕ) (d : Placed) → ByItem image items rule Bad → HasListing image items →
+told_at : (image : Image) (items : List Placed) (rule : Rule) (Bad : ℕ → Type 0) (i : ℕ) (d : Placed) → ByItem image items rule Bad → HasListing image items →
     is_flow_rule rule ≡ false → (i < length items) × Bad i × ((j : ℕ) → j < i → Bad j → ⊥) → HoldsBelow image items (rule_number rule) →
     IsCodeVerdict image rule (code_base + (get_or items i d).at)
 told_at image items rule Bad i d by listing shape found below =
     told_by_item image items rule Bad i (get_or items i d) by listing shape (slice_get-get_or items i d found.0) found.1 found.2 below
 
-pub none_by_item : (image : Image) (items : List Placed) (rule : Rule) (Bad : ℕ → Type 0) → ByItem image items rule Bad → ((j : ℕ) → j < length items → Bad j → ⊥) →
+none_by_item : (image : Image) (items : List Placed) (rule : Rule) (Bad : ℕ → Type 0) → ByItem image items rule Bad → ((j : ℕ) → j < length items → Bad j → ⊥) →
     (place : ℕ) → BreaksShape rule image items place → ⊥
 none_by_item image items rule Bad by none place b = let f = by.from place b in none f.0 (slice_get_within items f.0 f.1 f.2) f.4
 
-pub by_ends : (image : Image) (items : List Placed) → ByItem image items V3 (BadEnd items)
+by_ends : (image : Image) (items : List Placed) → ByItem image items V3 (BadEnd items)
 by_ends image items = record {
   to = λ i p e bad. (
     i,
@@ -160,30 +145,59 @@ ReturnsBadly items i p =
     ((is_call p.item ≡ true) × ((bit : ℕ) → HasReturnWord items i bit → fits_result (callee items p) bit ≡ true → ⊥))
     ⊎ ((bit : ℕ) × (p.item ≡ Ret bit) × (FollowsCall items i → ⊥))
 
-pub by_returns : (image : Image) (items : List Placed) → ByItem image items V5 (BadReturn items)
+by_returns : (image : Image) (items : List Placed) → ByItem image items V5 (BadReturn items)
 by_returns image items = record {
   to = λ i p e bad. (i, p, e, refl, subst (λ (x : Placed). ReturnsBadly items i x) (same_Some bad.0 p (sym bad.1 ∙ e)) bad.2);
   from = λ place b. (b.0, b.1, b.2, b.3, (b.1, b.2, b.4));
 }
 
-pub by_jumps : (image : Image) (items : List Placed) → ByItem image items V6 (BadJump items)
+by_jumps : (image : Image) (items : List Placed) → ByItem image items V6 (BadJump items)
 by_jumps image items = record {
   to = λ i p e bad. (i, p, bad.1, e, refl, subst (λ (x : Placed). jump_target x ≡ Some bad.1) (same_Some bad.0 p (sym bad.2 ∙ e)) bad.3, bad.4);
   from = λ place b. (b.0, b.1, b.3, b.4, (b.1, b.2, b.3, b.5, b.6));
 }
 
-pub by_calls : (image : Image) (items : List Placed) → ByItem image items V7 (BadCall items)
+by_calls : (image : Image) (items : List Placed) → ByItem image items V7 (BadCall items)
 by_calls image items = record {
   to = λ i p e bad. let same = same_Some bad.0 p (sym bad.2 ∙ e) in
       (i, p, bad.1, e, refl, subst (λ (x : Placed). call_target x ≡ Some bad.1) same bad.3, subst (λ (x : Placed). callee items x ≡ None) same bad.4);
   from = λ place b. (b.0, b.1, b.3, b.4, (b.1, b.2, b.3, b.5, b.6));
 }
 
-pub by_results : (image : Image) (items : List Placed) → ByItem image items V8 (BadResult items)
+by_results : (image : Image) (items : List Placed) → ByItem image items V8 (BadResult items)
 by_results image items = record {
   to = λ i p e bad. (i, p, bad.1, bad.2, e, refl, subst (λ (x : Placed). x.item ≡ ReturnUnit bad.1) (same_Some bad.0 p (sym bad.3 ∙ e)) bad.4, bad.5, bad.6);
   from = λ place b. (b.0, b.1, b.4, b.5, (b.1, b.2, b.3, b.4, b.6, b.7, b.8));
 }
+
+-- each rule on single items is broken just where one is bad, as its table says
+pub by_rule : (image : Image) (items : List Placed) (rule : Rule) → is_item_rule rule ≡ true → ByItem image items rule (BadBy rule items)
+by_rule image items V3 e = by_ends image items
+by_rule image items V5 e = by_returns image items
+by_rule image items V6 e = by_jumps image items
+by_rule image items V7 e = by_calls image items
+by_rule image items V8 e = by_results image items
+by_rule image items _ e = absurd (true≢false (sym e))
+
+item_rule_shape : (rule : Rule) → is_item_rule rule ≡ true → is_flow_rule rule ≡ false
+item_rule_shape V3 e = refl
+item_rule_shape V5 e = refl
+item_rule_shape V6 e = refl
+item_rule_shape V7 e = refl
+item_rule_shape V8 e = refl
+item_rule_shape _ e = absurd (true≢false (sym e))
+
+-- the first item that breaks such a rule gives the verdict, and where none does, the rule holds
+pub told_by_rule : (image : Image) (items : List Placed) (rule : Rule) (i : ℕ) (d : Placed) → is_item_rule rule ≡ true → HasListing image items →
+    (i < length items) × BadBy rule items i × ((j : ℕ) → j < i → BadBy rule items j → ⊥) → HoldsBelow image items (rule_number rule) →
+    IsCodeVerdict image rule (code_base + (get_or items i d).at)
+told_by_rule image items rule i d is listing found below =
+    told_at image items rule (BadBy rule items) i d (by_rule image items rule is) listing (item_rule_shape rule is) found below
+
+pub holds_by_rule : (image : Image) (items : List Placed) (rule : Rule) → is_item_rule rule ≡ true → ((j : ℕ) → j < length items → BadBy rule items j → ⊥) →
+    HoldsBelow image items (rule_number rule) → HoldsBelow image items (rule_number rule + 1)
+holds_by_rule image items rule is none below =
+    rw (add-one) (more_holds image items rule (rule_number rule) refl below (none_by_item image items rule (BadBy rule items) (by_rule image items rule is) none))
 
 -- ---- V3
 

@@ -1,5 +1,5 @@
 -- The first of so many items at which something is bad, by its number.
-use Rattle.std.specs.Prelude.{◌≡◌, ◌≢◌, ◌<◌, ℕ, ◌+◌, true, false, ◌⊎◌, List, length, Option, Some, None, MatchOption, slice_get, slice_index}
+use Rattle.std.specs.Prelude.{◌≡◌, ◌≢◌, ◌<◌, ℕ, ◌+◌, Bool, true, false, ◌⊎◌, List, length, Option, Some, None, MatchOption, slice_get, slice_index}
 use Rattle.std.specs.Int.{bit_at}
 use Rattle.code_sweep.specs.declared.item.Item.{Item}
 use Rattle.code_sweep.specs.declared.item.Item.TheVariants.{Ret, ReturnUnit}
@@ -7,11 +7,18 @@ use Rattle.code_sweep.specs.declared.item.Placed.{Placed}
 use Rattle.taint_flow.specs.Flow.{jump_target, Labelling}
 use Rattle.taint_flow.specs.Calls.{call_target, callee, is_call}
 use Rattle.conf_verify.specs.declared.rule.Rule.{Rule}
+use Rattle.conf_verify.specs.declared.rule.Rule.TheVariants.{V3, V5, V6, V7, V8}
 use Rattle.conf_verify.specs.Rules.{is_word, is_call_word, may_end, IsLast, HasReturnWord, fits_result, FollowsCall, IsGoodTarget, procedure_of, procedure_bits, item_breaks, rule_number}
 
 -- the answer is the first number below a bound that is bad, or None where none is
 abbrev pub IsFirstBad : (ℕ → Type 0) → ℕ → Option ℕ → Type 0
 IsFirstBad Bad bound r = MatchOption r ((i : ℕ) → i < bound → Bad i → ⊥) (λ i. (i < bound) × Bad i × ((j : ℕ) → j < i → Bad j → ⊥))
+
+-- what the first bad number is after number i: what it was, or i where that is bad
+abbrev pub first_of : Option ℕ → Bool → ℕ → Option ℕ
+first_of (Some j) bad i = Some j
+first_of None true i = Some i
+first_of None false i = None
 
 -- an item of the list begins at the place
 abbrev pub BeginsAt : List Placed → Placed → ℕ → Type 0
@@ -40,6 +47,23 @@ BadCall items i = (p : Placed) × (target : ℕ) × (slice_get items i ≡ Some 
 abbrev pub BadResult : List Placed → ℕ → Type 0
 BadResult items i =
     (p : Placed) × (bit bits : ℕ) × (slice_get items i ≡ Some p) × (p.item ≡ ReturnUnit bit) × (procedure_bits items i ≡ Some bits) × (bit ≢ bit_at bits 4)
+
+-- the rules on shape that speak of single items, and what makes an item break one
+abbrev pub is_item_rule : Rule → Bool
+is_item_rule V3 = true
+is_item_rule V5 = true
+is_item_rule V6 = true
+is_item_rule V7 = true
+is_item_rule V8 = true
+is_item_rule _ = false
+
+abbrev pub BadBy : Rule → List Placed → ℕ → Type 0
+BadBy V3 items = BadEnd items
+BadBy V5 items = BadReturn items
+BadBy V6 items = BadJump items
+BadBy V7 items = BadCall items
+BadBy V8 items = BadResult items
+BadBy _ items = λ i. ⊥
 
 -- the item is a return unit whose bit isn't bit 4 of these bits
 abbrev pub IsBadResult : Item → Option ℕ → Type 0

@@ -60,7 +60,7 @@ fn follows_call(items: &[Placed], i: usize) -> bool
 }
 
 /// Whether item `i` is a call behind which no return word stands that fits, or a return word that follows no call.
-fn is_bad_return(items: &[Placed], numbers: &ItemNumbers<'_>, i: usize) -> bool
+pub fn is_bad_return(items: &[Placed], numbers: &ItemNumbers<'_>, i: usize) -> bool
     requires numbers { NumbersItems items.now (number_at numbers.now) }
     requires eight { AreEight items.now }
     requires apart { StandApart items.now }
@@ -78,23 +78,8 @@ fn is_bad_return(items: &[Placed], numbers: &ItemNumbers<'_>, i: usize) -> bool
     }
 }
 
-/// The first item that breaks the rule on what stands behind calls and before return words.
-pub fn bad_return(items: &[Placed], numbers: &ItemNumbers<'_>) -> Option<usize>
-    requires numbers { NumbersItems items.now (number_at numbers.now) }
-    requires eight { AreEight items.now }
-    requires apart { StandApart items.now }
-    ensures { IsFirstBad (BadReturn items.now) (length items.now) result }
-{
-    for i in 0..items.len() {
-        if is_bad_return(items, numbers, i) {
-            return Some(i);
-        }
-    }
-    None
-}
-
 /// Whether item `i` is a direct call whose target is neither behind a call word nor a gate.
-fn is_bad_call(items: &[Placed], numbers: &ItemNumbers<'_>, i: usize) -> bool
+pub fn is_bad_call(items: &[Placed], numbers: &ItemNumbers<'_>, i: usize) -> bool
     requires numbers { NumbersItems items.now (number_at numbers.now) }
     requires eight { AreEight items.now }
     requires apart { StandApart items.now }
@@ -109,23 +94,8 @@ fn is_bad_call(items: &[Placed], numbers: &ItemNumbers<'_>, i: usize) -> bool
     callee(items, numbers, &p).is_none()
 }
 
-/// The first direct call with a bad target.
-pub fn bad_call(items: &[Placed], numbers: &ItemNumbers<'_>) -> Option<usize>
-    requires numbers { NumbersItems items.now (number_at numbers.now) }
-    requires eight { AreEight items.now }
-    requires apart { StandApart items.now }
-    ensures { IsFirstBad (BadCall items.now) (length items.now) result }
-{
-    for i in 0..items.len() {
-        if is_bad_call(items, numbers, i) {
-            return Some(i);
-        }
-    }
-    None
-}
-
 /// The bits of the procedure from an item on, from those before it.
-fn bits_from(item: &Item, before: Option<u8>) -> Option<u8>
+pub fn bits_from(item: &Item, before: Option<u8>) -> Option<u8>
     ensures { result ≡ option_or (call_bits item.now) before }
 {
     match *item {
@@ -135,7 +105,7 @@ fn bits_from(item: &Item, before: Option<u8>) -> Option<u8>
 }
 
 /// Whether the item is a return unit whose bit isn't bit 4 of its procedure's bits.
-fn is_bad_result(item: &Item, procedure: Option<u8>) -> bool
+pub fn is_bad_result(item: &Item, procedure: Option<u8>) -> bool
     ensures yes { IsTrue result → IsBadResult item.now procedure }
     ensures no { result ≡ false → IsBadResult item.now procedure → ⊥ }
 {
@@ -146,19 +116,4 @@ fn is_bad_result(item: &Item, procedure: Option<u8>) -> bool
         Item::ReturnUnit(bit) => bit != bits >> 4 & 1,
         _ => false,
     }
-}
-
-/// The first return unit whose bit isn't that of its procedure.
-pub fn bad_result(items: &[Placed]) -> Option<usize>
-    ensures { IsFirstBad (BadResult items.now) (length items.now) result }
-{
-    let mut procedure = None;
-    for i in 0..items.len() {
-        let p = items[i];
-        procedure = bits_from(&p.item, procedure);
-        if is_bad_result(&p.item, procedure) {
-            return Some(i);
-        }
-    }
-    None
 }

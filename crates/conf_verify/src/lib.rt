@@ -6,6 +6,7 @@
 #![tactic(auto)]
 
 mod calls;
+mod first_bad;
 mod law;
 mod listing;
 mod rule;

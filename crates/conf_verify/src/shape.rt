@@ -67,7 +67,7 @@ fn is_last(items: &[Placed], i: usize) -> bool
 }
 
 /// Whether the first item is no call word, or the last of a procedure may not end it.
-fn is_bad_end(items: &[Placed], i: usize) -> bool
+pub fn is_bad_end(items: &[Placed], i: usize) -> bool
     requires { i < length items.now }
     ensures yes { IsTrue result → BadEnd items.now i }
     ensures no { result ≡ false → BadEnd items.now i → ⊥ }
@@ -77,18 +77,6 @@ fn is_bad_end(items: &[Placed], i: usize) -> bool
         return true;
     }
     !may_end(&p.item) && is_last(items, i)
-}
-
-/// The first item that breaks the rule on ends.
-pub fn bad_end(items: &[Placed]) -> Option<usize>
-    ensures { IsFirstBad (BadEnd items.now) (length items.now) result }
-{
-    for i in 0..items.len() {
-        if is_bad_end(items, i) {
-            return Some(i);
-        }
-    }
-    None
 }
 
 /// The item that begins at a place of the code.
@@ -150,7 +138,13 @@ fn is_good_target(
     !is_word(&q.item) && procedures[j] == procedures[i]
 }
 
-fn is_bad_jump(items: &[Placed], numbers: &ItemNumbers<'_>, procedures: &[u32], i: usize) -> bool
+/// Whether item `i` is a jump whose target is no item of its procedure, or a word.
+pub fn is_bad_jump(
+    items: &[Placed],
+    numbers: &ItemNumbers<'_>,
+    procedures: &[u32],
+    i: usize,
+) -> bool
     requires numbers { NumbersItems items.now (number_at numbers.now) }
     requires procedures { AreProcedures items.now procedures.now }
     requires inside { i < length items.now }
@@ -162,20 +156,6 @@ fn is_bad_jump(items: &[Placed], numbers: &ItemNumbers<'_>, procedures: &[u32], 
         return false;
     };
     !is_good_target(items, numbers, procedures, i, target)
-}
-
-/// The first jump whose target is no item of its procedure, or a word.
-pub fn bad_jump(items: &[Placed], numbers: &ItemNumbers<'_>, procedures: &[u32]) -> Option<usize>
-    requires numbers { NumbersItems items.now (number_at numbers.now) }
-    requires procedures { AreProcedures items.now procedures.now }
-    ensures { IsFirstBad (BadJump items.now) (length items.now) result }
-{
-    for i in 0..items.len() {
-        if is_bad_jump(items, numbers, procedures, i) {
-            return Some(i);
-        }
-    }
-    None
 }
 
 /// Whether a word's prefix stands at a place.

@@ -1,23 +1,23 @@
 //! What is accepted, and what is refused.
 
-ghost use Rattle.std.specs.Prelude.{◌≡◌, ◌+◌, ◌<◌, ◌^◌, ℕ, length, OnOk, IfOk, IfErr};
+ghost use Rattle.std.specs.Prelude.{◌≡◌, ◌+◌, ◌<◌, ◌^◌, ℕ, true, length, OnOk, IfOk, IfErr};
 ghost use Rattle.cv_word.specs.MemoryMap.{code_base};
 ghost use Rattle.taint_flow.specs.Places.{NumbersItems, number_at};
 ghost use Rattle.conf_verify.specs.declared.rule.Rule.{Rule};
 ghost use Rattle.conf_verify.specs.declared.rule.Rule.TheVariants.{V1};
 ghost use Rattle.conf_verify.specs.declared.verdict.VerifyError.TheVariants.{NoMemory, Refused};
-ghost use Rattle.conf_verify.specs.Rules.{BreaksShape, call_words, other_items};
+ghost use Rattle.conf_verify.specs.Rules.{BreaksShape, call_words, other_items, rule_number};
+ghost use Rattle.conf_verify.specs.Search.{BadBy, IsFirstBad, is_item_rule};
 ghost use Rattle.conf_verify.specs.Steps.{IsCodeRefusal, HoldsBelow};
 ghost use Rattle.image_form.specs.Image.{IsGood};
 ghost use Rattle.conf_verify.specs.Verdict.{IsImage, IsAccepted, IsAcceptedImage, HasListing};
 ghost use Rattle.conf_verify.specs.Listed.{IsByListingRule};
 ghost use Rattle.conf_verify.specs.Answer.{Checked, image_of, checked_of, HasCounts, IsRefusal};
 
-use crate::calls::{bad_call, bad_result, bad_return};
+use crate::first_bad::first_bad;
 use crate::rule::Rule;
 use crate::shape::{
-    bad_end, bad_jump, bad_occurrence, follows_call_word, is_call_word, is_word, one_where,
-    procedure_numbers,
+    bad_occurrence, follows_call_word, is_call_word, is_word, one_where, procedure_numbers,
 };
 use crate::taint::{bad_label, least_labels};
 use code_sweep::{Listing, Placed, SweepError, sweep};
@@ -213,23 +213,33 @@ fn check_shape(
     ensures holds { OnOk result ((rule : Rule) (place : ℕ) → BreaksShape rule (image_of parts.now) items.now place → ⊥) }
     ensures refused { IfErr result (λ error. IsCodeRefusal (image_of parts.now) error) }
 {
-    check_ends(parts, items)?;
+    let procedures = procedure_numbers(alloc, items)?;
+    let first = first_bad(items, numbers, procedures.as_slice());
+    check_items(parts, items, Rule::V3, first.end)?;
     check_prefix(alloc, parts, items, numbers)?;
-    check_returns(parts, items, numbers)?;
-    check_jumps(alloc, parts, items, numbers)?;
-    check_calls(parts, items, numbers)?;
-    check_results(parts, items)?;
+    check_items(parts, items, Rule::V5, first.return_word)?;
+    check_items(parts, items, Rule::V6, first.jump)?;
+    check_items(parts, items, Rule::V7, first.call)?;
+    check_items(parts, items, Rule::V8, first.result)?;
     check_entry(parts, items, numbers)
 }
 
-/// V3: how procedures begin and end.
-fn check_ends(parts: &Parts<'_>, items: &[Placed]) -> Result<(), VerifyError>
-    requires { HasListing (image_of parts.now) items.now }
-    ensures holds { OnOk result (HoldsBelow (image_of parts.now) items.now 4) }
+/// A rule on single items, of which this is the first that breaks it.
+fn check_items(
+    parts: &Parts<'_>,
+    items: &[Placed],
+    rule: Rule,
+    first: Option<usize>,
+) -> Result<(), VerifyError>
+    requires rule { is_item_rule rule ≡ true }
+    requires listing { HasListing (image_of parts.now) items.now }
+    requires first { IsFirstBad (BadBy rule items.now) (length items.now) first }
+    requires below { HoldsBelow (image_of parts.now) items.now (rule_number rule) }
+    ensures holds { OnOk result (HoldsBelow (image_of parts.now) items.now (rule_number rule + 1)) }
     ensures refused { IfErr result (λ error. IsCodeRefusal (image_of parts.now) error) }
 {
-    match bad_end(items) {
-        Some(i) => Err(refused(Rule::V3, items[i].at)),
+    match first {
+        Some(i) => Err(refused(rule, items[i].at)),
         None => Ok(()),
     }
 }
@@ -251,78 +261,6 @@ fn check_prefix(
     let places = occurrences(alloc, parts.code, parts.prefix)?;
     match bad_occurrence(items, numbers, places.as_slice()) {
         Some(k) => Err(refused(Rule::V4, places[k])),
-        None => Ok(()),
-    }
-}
-
-/// V5: a fitting return word stands behind each call, and nowhere else.
-fn check_returns(
-    parts: &Parts<'_>,
-    items: &[Placed],
-    numbers: &ItemNumbers<'_>,
-) -> Result<(), VerifyError>
-    requires good { IsGood (image_of parts.now) }
-    requires listing { HasListing (image_of parts.now) items.now }
-    requires numbers { NumbersItems items.now (number_at numbers.now) }
-    requires below { HoldsBelow (image_of parts.now) items.now 5 }
-    ensures holds { OnOk result (HoldsBelow (image_of parts.now) items.now 6) }
-    ensures refused { IfErr result (λ error. IsCodeRefusal (image_of parts.now) error) }
-{
-    match bad_return(items, numbers) {
-        Some(i) => Err(refused(Rule::V5, items[i].at)),
-        None => Ok(()),
-    }
-}
-
-/// V6: jumps stay in their procedure.
-fn check_jumps(
-    alloc: Global,
-    parts: &Parts<'_>,
-    items: &[Placed],
-    numbers: &ItemNumbers<'_>,
-) -> Result<(), VerifyError>
-    requires good { IsGood (image_of parts.now) }
-    requires listing { HasListing (image_of parts.now) items.now }
-    requires numbers { NumbersItems items.now (number_at numbers.now) }
-    requires below { HoldsBelow (image_of parts.now) items.now 6 }
-    ensures holds { OnOk result (HoldsBelow (image_of parts.now) items.now 7) }
-    ensures refused { IfErr result (λ error. IsCodeRefusal (image_of parts.now) error) }
-{
-    let procedures = procedure_numbers(alloc, items)?;
-    match bad_jump(items, numbers, procedures.as_slice()) {
-        Some(i) => Err(refused(Rule::V6, items[i].at)),
-        None => Ok(()),
-    }
-}
-
-/// V7: a direct call names a procedure or a gate.
-fn check_calls(
-    parts: &Parts<'_>,
-    items: &[Placed],
-    numbers: &ItemNumbers<'_>,
-) -> Result<(), VerifyError>
-    requires good { IsGood (image_of parts.now) }
-    requires listing { HasListing (image_of parts.now) items.now }
-    requires numbers { NumbersItems items.now (number_at numbers.now) }
-    requires below { HoldsBelow (image_of parts.now) items.now 7 }
-    ensures holds { OnOk result (HoldsBelow (image_of parts.now) items.now 8) }
-    ensures refused { IfErr result (λ error. IsCodeRefusal (image_of parts.now) error) }
-{
-    match bad_call(items, numbers) {
-        Some(i) => Err(refused(Rule::V7, items[i].at)),
-        None => Ok(()),
-    }
-}
-
-/// V8: a return unit has the bit of its procedure.
-fn check_results(parts: &Parts<'_>, items: &[Placed]) -> Result<(), VerifyError>
-    requires listing { HasListing (image_of parts.now) items.now }
-    requires below { HoldsBelow (image_of parts.now) items.now 8 }
-    ensures holds { OnOk result (HoldsBelow (image_of parts.now) items.now 9) }
-    ensures refused { IfErr result (λ error. IsCodeRefusal (image_of parts.now) error) }
-{
-    match bad_result(items) {
-        Some(i) => Err(refused(Rule::V8, items[i].at)),
         None => Ok(()),
     }
 }
