@@ -27,6 +27,20 @@ def straight(size):
     return repeated(bytes.fromhex("41b800100000 6567498b8000000000 656749898000000000 4801c8 90"), size)
 
 
+def rows(size):
+    """Each plain row of the instruction table once, over public registers, again and again."""
+    public = "".join(f"{0x40 + r // 8:02x}{0xB8 + r % 8:02x}00100000" for r in range(16) if r != 4)
+    table = """
+        4889f8 4589f8 4801c8 4809da 4821ee 4829fe 4d31c8 4d39da 4d85ec 4d0faff7 48f7d0 48f7d9 48f7fb 4899
+        48c1e001 49c1ec3f 48c1fb0a 48d3e0 49d3ed 48d3fd 4863c1 480fb6d3 480fbef7
+        4981ff00000000 400f94c0 4d0f4ec1 40b800000000 48b90010000000000000 48c7c307000000
+        4881c008000000 4881c9ffffffff 4881e2f0ffffff 4881ee08000000 4981f10a000000
+        6467498b80fdffffff 6467408b8c2400000000 6467490fb69424ffffff7f 64674c0fbead00000080 64674c63b010000000
+        646748898708000000 646745899affffffff 646741889964000000 0f8d00000000 e900000000 90
+    """
+    return repeated(bytes.fromhex(public + table), size)
+
+
 def jumps(size):
     # a jump over the next one, and back
     return repeated(bytes.fromhex("e905000000 e9f6ffffff"), size)
@@ -88,7 +102,7 @@ def written(folder, name, data):
 
 def time_verify(program, folder):
     print("| Code | Bytes | `verify` MB/s | `objdump` MB/s | Ratio | Peak MB |\n|---|---|---|---|---|---|")
-    for shape in (straight, jumps, calls, units, turns):
+    for shape in (straight, rows, jumps, calls, units, turns):
         times = []
         for size in (65536, 1048576, 4194304):
             code = shape(size)

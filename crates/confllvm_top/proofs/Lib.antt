@@ -1,6 +1,4 @@
--- Lemmas on the words of a command, on its answer and on what it puts.
-pub mod WordLists
-pub mod NumberLemmas
+-- Lemmas on the answer of a command and on what it puts.
+pub mod EndingLemmas
 pub mod OneAnswer
 pub mod RunLemmas
-pub mod EndingLemmas

@@ -3,6 +3,8 @@ use Rattle.std.proofs.Common.{◌≡◌, ◌∙◌, ℕ, ◌⊎◌, inl, inr, Li
 use Rattle.image_form.specs.Image.{Image}
 use Rattle.image_form.proofs.Laws.{spelling_is_one}
 use Rattle.conf_verify.specs.declared.rule.Rule.{Rule}
+use Rattle.code_sweep.specs.declared.item.Placed.{Placed}
+use Rattle.conf_verify.specs.Listed.{IsListed, IsUnlisted}
 use Rattle.conf_verify.specs.Verdict.{IsImage, IsAccepted, IsVerdict}
 use Rattle.x64_machine.specs.declared.outcome.Outcome.{Outcome}
 use Rattle.x64_machine.specs.declared.outcome.Outcome.TheVariants as outcome
@@ -12,9 +14,11 @@ use Rattle.x64_machine.specs.Start.{Shared, Secret, start}
 use Rattle.x64_machine.specs.Entries.{entries}
 use Rattle.confllvm_top.specs.declared.status.Status.{Status}
 use Rattle.confllvm_top.specs.declared.status.Status.TheVariants.{Done, Refused, Usage, StoreFault, SinkFault, Fault, Steps, NoMemory}
-use Rattle.confllvm_top.specs.Commands.{Command, Verify, Run}
+use Rattle.command_line.specs.Commands.{Command, Verify, Run, Disasm}
 use Rattle.confllvm_top.specs.Running.{RunsTo, status_of}
+use Rattle.confllvm_top.specs.Listing.{CanBeListed}
 use Rattle.confllvm_top.specs.Answers.{Answers}
+use Rattle.confllvm_top.proofs.EndingLemmas.{no_answer}
 
 -- ---- one outcome
 
@@ -38,59 +42,78 @@ one_outcome bytes steps o p x y =
 
 -- ---- one answer
 
--- bytes have one verdict, as `one_verdict` says
+-- bytes have one verdict and one listing, as `one_verdict` and `one_listing` say
 pub record OneVerdict : Type 0 where
   pub accepted : (bytes : List ℕ) (rule : Rule) (at : ℕ) → IsAccepted bytes → IsVerdict bytes rule at → ⊥
   pub rule : (bytes : List ℕ) (rule other : Rule) (at there : ℕ) → IsVerdict bytes rule at → IsVerdict bytes other there → rule ≡ other
   pub place : (bytes : List ℕ) (rule other : Rule) (at there : ℕ) → IsVerdict bytes rule at → IsVerdict bytes other there → at ≡ there
+  pub unlisted : (bytes code : List ℕ) (items : List Placed) (rule : Rule) (at : ℕ) → IsListed bytes code items → IsUnlisted bytes rule at → ⊥
+
+-- what a command finds where it refuses nothing
+abbrev Finds : Command → List ℕ → Type 0
+Finds (Verify name) bytes = IsAccepted bytes
+Finds (Run name steps) bytes = IsAccepted bytes
+Finds (Disasm name) bytes = CanBeListed bytes
 
 -- a status with which a command passes bytes
 abbrev Passes : Status → Command → List ℕ → Type 0
 Passes status (Verify name) bytes = status ≡ Done
 Passes status (Run name steps) bytes = (o : Outcome) × RunsTo bytes steps o × (status ≡ status_of steps o)
+Passes status (Disasm name) bytes = status ≡ Done
 
-abbrev Refuses : Status → List ℕ → Type 0
-Refuses status bytes = (rule : Rule) × (at : ℕ) × IsVerdict bytes rule at × (status ≡ Refused rule at)
+-- a status with which it refuses them, by their verdict
+record Refuses (status : Status) (command : Command) (bytes : List ℕ) : Type 0 where
+  rule : Rule
+  at : ℕ
+  verdict : IsVerdict bytes rule at
+  is : status ≡ Refused rule at
+  excludes : Finds command bytes → ⊥
 
 -- an answer refuses the bytes or passes them
-refuses_or_passes : (status : Status) (command : Command) (bytes : List ℕ) → Answers status command bytes →
-    Refuses status bytes ⊎ (IsAccepted bytes × Passes status command bytes)
-refuses_or_passes (Refused rule at) command bytes h = inl (rule, at, h, refl)
-refuses_or_passes Done (Verify name) bytes h = inr (h, refl)
-refuses_or_passes Done (Run name steps) bytes h = absurd h
-refuses_or_passes (Fault core at kind) (Verify name) bytes h = absurd h
-refuses_or_passes (Fault core at kind) (Run name steps) bytes h = inr (h.0, (outcome.Fault core at kind, h.1, refl))
-refuses_or_passes (Steps used) (Verify name) bytes h = absurd h
-refuses_or_passes (Steps used) (Run name steps) bytes h = inr (h.0, (outcome.Running, h.1, ap Steps h.2))
-refuses_or_passes Usage (Verify name) bytes h = absurd h
-refuses_or_passes Usage (Run name steps) bytes h = absurd h
-refuses_or_passes StoreFault (Verify name) bytes h = absurd h
-refuses_or_passes StoreFault (Run name steps) bytes h = absurd h
-refuses_or_passes SinkFault (Verify name) bytes h = absurd h
-refuses_or_passes SinkFault (Run name steps) bytes h = absurd h
-refuses_or_passes NoMemory (Verify name) bytes h = absurd h
-refuses_or_passes NoMemory (Run name steps) bytes h = absurd h
+refuses_or_passes : OneVerdict → (status : Status) (command : Command) (bytes : List ℕ) → Answers status command bytes →
+    Refuses status command bytes ⊎ (Finds command bytes × Passes status command bytes)
+refuses_or_passes v (Refused rule at) (Verify name) bytes h =
+    inl (record { rule = rule; at = at; verdict = h; is = refl; excludes = λ found. v.accepted bytes rule at found h })
+refuses_or_passes v (Refused rule at) (Run name steps) bytes h =
+    inl (record { rule = rule; at = at; verdict = h; is = refl; excludes = λ found. v.accepted bytes rule at found h })
+refuses_or_passes v (Refused rule at) (Disasm name) bytes h =
+    inl (record { rule = rule; at = at; verdict = h.verdict; is = refl; excludes = λ found. v.unlisted bytes found.code found.items rule at found.listed h })
+refuses_or_passes v Done (Verify name) bytes h = inr (h, refl)
+refuses_or_passes v Done (Disasm name) bytes h = inr (h, refl)
+refuses_or_passes v (Fault core at kind) (Run name steps) bytes h = inr (h.0, (outcome.Fault core at kind, h.1, refl))
+refuses_or_passes v (Steps used) (Run name steps) bytes h = inr (h.0, (outcome.Running, h.1, ap Steps h.2))
+refuses_or_passes v Done (Run name steps) bytes h = absurd h
+refuses_or_passes v (Fault core at kind) (Verify name) bytes h = absurd h
+refuses_or_passes v (Fault core at kind) (Disasm name) bytes h = absurd h
+refuses_or_passes v (Steps used) (Verify name) bytes h = absurd h
+refuses_or_passes v (Steps used) (Disasm name) bytes h = absurd h
+refuses_or_passes v Usage command bytes h = absurd (no_answer Usage command bytes refl h)
+refuses_or_passes v StoreFault command bytes h = absurd (no_answer StoreFault command bytes refl h)
+refuses_or_passes v SinkFault command bytes h = absurd (no_answer SinkFault command bytes refl h)
+refuses_or_passes v NoMemory command bytes h = absurd (no_answer NoMemory command bytes refl h)
 
 same_refusal : (rule other : Rule) (at there : ℕ) → rule ≡ other → at ≡ there → Refused rule at ≡ Refused other there
 same_refusal rule other at there e f = cc
 
-both_refuse : OneVerdict → (bytes : List ℕ) (mine yours : Status) → Refuses mine bytes → Refuses yours bytes → mine ≡ yours
-both_refuse v bytes mine yours x y =
-    x.3 ∙ same_refusal x.0 y.0 x.1 y.1 (v.rule bytes x.0 y.0 x.1 y.1 x.2 y.2) (v.place bytes x.0 y.0 x.1 y.1 x.2 y.2) ∙ sym y.3
+both_refuse : OneVerdict → (command : Command) (bytes : List ℕ) (mine yours : Status) → Refuses mine command bytes → Refuses yours command bytes → mine ≡ yours
+both_refuse v command bytes mine yours x y =
+    x.is ∙ same_refusal x.rule y.rule x.at y.at (v.rule bytes x.rule y.rule x.at y.at x.verdict y.verdict) (v.place bytes x.rule y.rule x.at y.at x.verdict y.verdict)
+    ∙ sym y.is
 
 both_pass : (command : Command) (bytes : List ℕ) (mine yours : Status) → Passes mine command bytes → Passes yours command bytes → mine ≡ yours
 both_pass (Verify name) bytes mine yours x y = x ∙ sym y
 both_pass (Run name steps) bytes mine yours x y = x.2 ∙ ap (λ o. status_of steps o) (one_outcome bytes steps x.0 y.0 x.1 y.1) ∙ sym y.2
+both_pass (Disasm name) bytes mine yours x y = x ∙ sym y
 
 pub one_answer_of : OneVerdict → (command : Command) (bytes : List ℕ) (mine yours : Status) → Answers mine command bytes → Answers yours command bytes → mine ≡ yours
 one_answer_of v command bytes mine yours x y =
-    elim (refuses_or_passes mine command bytes x) [
-      | inl m ↦ elim (refuses_or_passes yours command bytes y) [
-        | inl n ↦ both_refuse v bytes mine yours m n
-        | inr n ↦ absurd (v.accepted bytes m.0 m.1 n.0 m.2)
+    elim (refuses_or_passes v mine command bytes x) [
+      | inl m ↦ elim (refuses_or_passes v yours command bytes y) [
+        | inl n ↦ both_refuse v command bytes mine yours m n
+        | inr n ↦ absurd (m.excludes n.0)
       ]
-      | inr m ↦ elim (refuses_or_passes yours command bytes y) [
-        | inl n ↦ absurd (v.accepted bytes n.0 n.1 m.0 n.2)
+      | inr m ↦ elim (refuses_or_passes v yours command bytes y) [
+        | inl n ↦ absurd (n.excludes m.0)
         | inr n ↦ both_pass command bytes mine yours m.1 n.1
       ]
     ]

@@ -14,7 +14,7 @@ use Rattle.x64_machine.specs.Entries.{entries}
 use Rattle.x64_machine.specs.Noninterference.{Noninterfering}
 use Rattle.confllvm_top.specs.declared.status.Status.{Status}
 use Rattle.confllvm_top.specs.declared.telling.Told.{Told}
-use Rattle.confllvm_top.specs.Commands.{Run}
+use Rattle.command_line.specs.Commands.{Run}
 use Rattle.confllvm_top.specs.Running.{RunsTo, status_of}
 use Rattle.confllvm_top.specs.Answers.{Answers, IsLine, IsAnswer}
 
@@ -50,11 +50,11 @@ passes bytes name steps (outcome.Fault core at kind) accepted runs = (accepted, 
 
 -- what tells the outcome of the bytes' run is the answer
 pub run_told : (bytes : List ℕ) (steps : ℕ) (o : Outcome) (result : Result Told NoMemory) → IsAccepted bytes → Noninterfering bytes → RunsTo bytes steps o →
-    IfOk result (λ told. told.status ≡ status_of steps o) → IfOk result (λ told. (any : List ℕ) → IsLine told.status any (string_bytes told.line)) →
+    IfOk result (λ told. told.status ≡ status_of steps o) → IfOk result (λ told. (name any : List ℕ) → IsLine told.status (Run name steps) any (string_bytes told.line)) →
     IfOk result (λ told. (name : List ℕ) → IsAnswer told.status (Run name steps) bytes (string_bytes told.line))
 run_told bytes steps o (Ok told) accepted noninterfering runs status line = λ name. record {
   answers = subst (λ (s : Status). Answers s (Run name steps) bytes) (sym status) (passes bytes name steps o accepted runs);
-  noninterfering = λ _. noninterfering;
-  tells = line bytes;
+  noninterfering = λ _ _. noninterfering;
+  tells = line name bytes;
 }
 run_told bytes steps o (Err error) accepted noninterfering runs status line = tt

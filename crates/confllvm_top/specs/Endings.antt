@@ -5,7 +5,7 @@ use Rattle.conf_verify.specs.Verdict.{IsAccepted}
 use Rattle.x64_machine.specs.Noninterference.{Noninterfering}
 use Rattle.confllvm_top.specs.declared.status.Status.{Status}
 use Rattle.confllvm_top.specs.declared.status.Status.TheVariants.{StoreFault, SinkFault, NoMemory}
-use Rattle.confllvm_top.specs.Commands.{Command, Verify, Run, IsCommand, name_of}
+use Rattle.command_line.specs.Commands.{Command, Verify, Run, Disasm, IsCommand, name_of}
 use Rattle.confllvm_top.specs.Lines.{no_memory_line}
 use Rattle.confllvm_top.specs.Statuses.{is_passed}
 use Rattle.confllvm_top.specs.Streams.{Stream, HasGot, HasGotNothing, HasFailed, HasGotFront, MayHaveGot}
@@ -29,15 +29,17 @@ pub record LacksNamed (words : List (List ℕ)) (files : Option Files) : Type 0 
   pub said : IsCommand words command
   pub lacks : LacksFile files (name_of command)
 
--- `verify` puts its line to `out`, and `run` to `err`; nothing else is put. (A run has no output so far.)
+-- `run` puts its line to `err`, and the other commands put theirs to `out`; nothing else is put. (A run has no output so far.)
 abbrev pub Puts : Command → List ℕ → Stream → Stream → Type 0
 Puts (Verify name) line out err = HasGot line out × HasGotNothing err
+Puts (Disasm name) line out err = HasGot line out × HasGotNothing err
 Puts (Run name steps) line out err = HasGotNothing out × HasGot line err
 
 -- Of these puts one has failed, after which nothing was put: that of the line, of which there is a front; or, where a run
 -- has ended, that of its output before the line.
 abbrev pub PutsFront : Command → Status → List ℕ → Stream → Stream → Type 0
 PutsFront (Verify name) status line out err = HasGotFront line out × HasGotNothing err
+PutsFront (Disasm name) status line out err = HasGotFront line out × HasGotNothing err
 PutsFront (Run name steps) status line out err =
     (HasGotNothing out × HasGotFront line err)
     ⊎ ((is_passed status ≡ true) × HasGotNothing out × HasFailed out × HasGotNothing err)

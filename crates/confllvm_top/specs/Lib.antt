@@ -1,6 +1,9 @@
--- What the words of a command say, what it prints, and how it ends.
+-- What a command prints, and how it ends.
+pub use Rattle.command_line.specs.Commands
+pub use Rattle.disasm_text.specs.ListingText
 pub use Rattle.conf_verify.specs.Verdict
 pub use Rattle.conf_verify.specs.Answer
+pub use Rattle.conf_verify.specs.Listed
 pub use Rattle.x64_machine.specs.Run
 pub use Rattle.x64_machine.specs.Start
 pub use Rattle.x64_machine.specs.Entries
@@ -8,13 +11,12 @@ pub use Rattle.x64_machine.specs.Noninterference
 pub use Rattle.cv_io.specs.Counts
 pub use Rattle.cv_io.specs.Files
 pub use Rattle.cv_io.specs.Output
-pub mod Numbers
-pub mod Commands
 pub mod Lines
 pub mod Statuses
 pub mod Streams
+pub mod Putting
 pub mod Verifying
+pub mod Listing
 pub mod Running
 pub mod Answers
 pub mod Endings
-pub mod Words

@@ -1,5 +1,6 @@
 -- What a status says, and the exit status of each.
 use Rattle.std.specs.Prelude.{ℕ, Bool, true, false}
+use Rattle.command_line.specs.Commands.{Command, Disasm}
 use Rattle.confllvm_top.specs.declared.status.Status.{Status}
 use Rattle.confllvm_top.specs.declared.status.Status.TheVariants.{Done, Refused, Usage, StoreFault, SinkFault, Fault, Steps, NoMemory}
 
@@ -13,14 +14,19 @@ code_of (Fault core at kind) = 5
 code_of (Steps used) = 6
 code_of NoMemory = 9
 
--- the command has found the bytes of its file accepted
+-- A command that checks the bytes of its file before all else; `disasm` lists them only.
+abbrev pub checks : Command → Bool
+checks (Disasm name) = false
+checks _ = true
+
+-- the command did its work with the bytes of its file, and didn't refuse them
 abbrev pub is_passed : Status → Bool
 is_passed Done = true
 is_passed (Fault core at kind) = true
 is_passed (Steps used) = true
 is_passed _ = false
 
--- the command has told what it found: it passed the bytes or refused them
+-- the command has told how it ended: it passed the bytes or refused them
 abbrev pub is_told : Status → Bool
 is_told (Refused rule at) = true
 is_told status = is_passed status

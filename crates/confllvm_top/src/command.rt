@@ -1,39 +1,41 @@
 //! The call that does a command.
 
-ghost use Rattle.std.specs.Prelude.{◌≡◌, ◌≤◌, ◌⊎◌, ◌↔◌, ℕ, true, List, map};
+ghost use Rattle.std.specs.Prelude.{◌≡◌, ◌≤◌, ◌⊎◌, ℕ, true, List, map};
 ghost use Rattle.std.specs.String.{string_bytes};
 ghost use Rattle.cv_io.specs.Counts.{HasRisen};
+ghost use Rattle.command_line.specs.Commands as said;
+ghost use Rattle.command_line.specs.Commands.{IsCommand, IsNoCommand, name_of};
+ghost use Rattle.command_line.specs.Words.{command_of};
 ghost use Rattle.confllvm_top.specs.Answers.{Answers};
-ghost use Rattle.confllvm_top.specs.Commands as said;
-ghost use Rattle.confllvm_top.specs.Commands.{IsCommand, IsNoCommand, name_of};
 ghost use Rattle.confllvm_top.specs.Endings.{Ends, HasEnded, HasFailedToEnd, IsChecked, IsFault, LacksNamed, TellsNamed};
 ghost use Rattle.confllvm_top.specs.Lines.{no_memory_line, store_fault_line, usage_line};
-ghost use Rattle.confllvm_top.specs.Statuses.{is_passed, is_told};
+ghost use Rattle.confllvm_top.specs.Statuses.{checks, is_passed, is_told};
 ghost use Rattle.confllvm_top.specs.Streams.{stream, HasFailed, HasGotNothing, MayHaveGot};
-ghost use Rattle.confllvm_top.specs.Words.{command_of};
 
 use crate::law::one_answer;
 use crate::lines;
+use crate::listing::tell_listing;
 use crate::running::tell_run;
 use crate::status::Status;
 use crate::telling::{put_anyway, tell_no_memory};
 use crate::verifying::tell_verdict;
-use crate::words::{Command, read_command};
+use command_line::{Command, WordsFault, one_command, read_command};
 use cv_io::{Sink, Store, StoreError};
 use std::alloc::Global;
 
 /// Does the command that `words` say, those after the program's name, and answers how it ended.
 ///
-/// The commands are `verify NAME` and `run NAME STEPS`, where NAME doesn't begin with `-` and STEPS is one
-/// or more decimal digits with a value of at most 1,000,000,000; all other words are `Usage`. Both load
-/// the file and verify its bytes as an image. A failing or missing file is `StoreFault`.
+/// The commands are `verify NAME`, `run NAME STEPS` and `disasm NAME`, as `command_line` reads them; all
+/// other words are `Usage`. Each loads the file; `verify` and `run` verify its bytes as an image. A failing
+/// or missing file is `StoreFault`.
 ///
 /// `verify` puts to `out` the line `accepted procedures P items I` of `Done`, or that of `Refused`,
-/// `refused V1 at place P` or `refused RULE at 0xA`. `run` takes no step where the bytes are refused. Else
-/// it runs the image over a round robin of STEPS entries, puts the output of the run, which is empty so
-/// far, to `out`, and ends with `Fault` or `Steps`. Its lines go to `err`: that of `Refused`,
-/// `fault core C at 0xA KIND` or `steps N`. A failing put of these is `SinkFault`, and then nothing more
-/// is put.
+/// `refused V1 at place P` or `refused RULE at 0xA`. `disasm` puts to `out` the listing of the image's code,
+/// a line for each item, or that of `Refused`, which is by V1 or V2 alone. `run` takes no step where the
+/// bytes are refused. Else it runs the image over a round robin of STEPS entries, puts the output of the
+/// run, which is empty so far, to `out`, and ends with `Fault` or `Steps`. Its lines go to `err`: that of
+/// `Refused`, `fault core C at 0xA KIND` or `steps N`. A failing put of these is `SinkFault`, and then
+/// nothing more is put.
 ///
 /// The lines `usage fault`, `store fault NAME` and `no memory` go to `err`, whether or not that fails.
 /// No file changes.
@@ -44,16 +46,17 @@ pub fn confllvm<S: Store, O: Sink, E: Sink>(
     out: &mut O,
     err: &mut E,
 ) -> Status
-    // Wherever the check was passed, the loaded bytes are accepted and noninterfering.
-    ensures checked { is_passed result ≡ true → IsChecked (map string_bytes words.now) (S.contents store.old) }
+    // Wherever `verify` or `run` passed its check, the loaded bytes are accepted and noninterfering.
+    ensures checked { (command : said.Command) → IsCommand (map string_bytes words.now) command → checks command ≡ true → is_passed result ≡ true → IsChecked (map string_bytes words.now) (S.contents store.old) }
     // An answer is that of the command to the loaded bytes, and its line and nothing else is put.
     ensures told { is_told result ≡ true → HasEnded result (map string_bytes words.now) (S.contents store.old) (stream O.held O.faults out.old out.new) (stream E.held E.faults err.old err.new) }
     // A file that is told is answered by what its bytes are, unless there is a fault or memory is refused.
     ensures answered { (command : said.Command) (bytes : List ℕ) → TellsNamed (map string_bytes words.now) (S.contents store.old) command bytes → Answers result command bytes ⊎ IsFault result (HasRisen (S.faults store.old) (S.faults store.new)) (stream O.held O.faults out.old out.new) (stream E.held E.faults err.old err.new) }
     // So a file that is told gets exactly the command's answer to its bytes, unless there is a fault or memory is refused.
     ensures exact { (command : said.Command) (bytes : List ℕ) (status : Status) → TellsNamed (map string_bytes words.now) (S.contents store.old) command bytes → Answers status command bytes → (result ≡ status) ⊎ IsFault result (HasRisen (S.faults store.old) (S.faults store.new)) (stream O.held O.faults out.old out.new) (stream E.held E.faults err.old err.new) }
-    // Usage exactly where the words are no command.
-    ensures usage { (result ≡ Status.Usage) ↔ IsNoCommand (map string_bytes words.now) }
+    // Usage exactly where the words are no command, unless memory is refused.
+    ensures usage { result ≡ Status.Usage → IsNoCommand (map string_bytes words.now) }
+    ensures no_command { IsNoCommand (map string_bytes words.now) → (result ≡ Status.Usage) ⊎ (result ≡ Status.NoMemory) }
     ensures store_fault { result ≡ Status.StoreFault → HasRisen (S.faults store.old) (S.faults store.new) ⊎ LacksNamed (map string_bytes words.now) (S.contents store.old) }
     ensures sink_fault { result ≡ Status.SinkFault → HasFailed (stream O.held O.faults out.old out.new) ⊎ HasFailed (stream E.held E.faults err.old err.new) }
     // What both sinks have got then: the command was about to tell its answer, and a put failed.
@@ -72,9 +75,14 @@ pub fn confllvm<S: Store, O: Sink, E: Sink>(
     ensures err_counted { E.faults err.old ≤ E.faults err.new }
 {
     one_answer();
-    let Some(command) = read_command(words) else {
-        put_anyway(err, b"usage fault\n");
-        return Status::Usage;
+    one_command();
+    let command = match read_command(alloc, words) {
+        Ok(command) => command,
+        Err(WordsFault::Usage) => {
+            put_anyway(err, b"usage fault\n");
+            return Status::Usage;
+        }
+        Err(WordsFault::NoMemory) => return tell_no_memory(err),
     };
     let name = command.name();
     match store.load(alloc, name) {
@@ -100,6 +108,7 @@ fn tell<O: Sink, E: Sink>(
     match command {
         Command::Verify { .. } => tell_verdict(alloc, bytes, out, err),
         Command::Run { steps, .. } => tell_run(alloc, bytes, *steps, out, err),
+        Command::Disasm { .. } => tell_listing(alloc, bytes, out, err),
     }
 }
 

@@ -1,18 +1,17 @@
 //! What `run` does with the bytes of a file.
 
-ghost use Rattle.std.specs.Prelude.{◌≡◌, ◌≤◌, ◌⊎◌, ℕ, List, IfOk};
+ghost use Rattle.std.specs.Prelude.{◌≡◌, ◌≤◌, ℕ, List, IfOk};
 ghost use Rattle.std.specs.String.{string_bytes};
 ghost use Rattle.conf_verify.specs.Verdict.{IsImage};
 ghost use Rattle.confllvm_top.specs.Answers.{IsAnswer, IsLine};
-ghost use Rattle.confllvm_top.specs.Commands.{Run};
+ghost use Rattle.command_line.specs.Commands.{Run};
 ghost use Rattle.confllvm_top.specs.Endings.{Ends};
-ghost use Rattle.confllvm_top.specs.Lines.{no_memory_line};
 ghost use Rattle.confllvm_top.specs.Running.{RunsTo, status_of};
-ghost use Rattle.confllvm_top.specs.Streams.{stream, HasGot, HasGotFront, MayHaveGot};
+ghost use Rattle.confllvm_top.specs.Streams.{stream};
 
 use crate::lines;
 use crate::status::Status;
-use crate::telling::{Told, tell_no_memory};
+use crate::telling::{Told, put_line, tell_no_memory};
 use conf_verify::{Verified, VerifyError, verify};
 use cv_io::{Sink, SinkError};
 use cv_word::NoMemory;
@@ -41,20 +40,6 @@ pub(crate) fn tell_run<O: Sink, E: Sink>(
     }
     match out.put(b"") {
         Ok(()) => put_line(&told, err),
-        Err(SinkError::Failed) => Status::SinkFault,
-        Err(SinkError::NoMemory) => tell_no_memory(err),
-    }
-}
-
-/// Puts the line to `err`, and answers the status that it tells, if that goes well.
-fn put_line<E: Sink>(told: &Told, err: &mut E) -> Status
-    ensures line { ((result ≡ told.now.status) × HasGot (string_bytes told.now.line) (stream E.held E.faults err.old err.new))
-        ⊎ ((result ≡ Status.SinkFault) × HasGotFront (string_bytes told.now.line) (stream E.held E.faults err.old err.new))
-        ⊎ ((result ≡ Status.NoMemory) × MayHaveGot no_memory_line (stream E.held E.faults err.old err.new)) }
-    ensures counted { E.faults err.old ≤ E.faults err.new }
-{
-    match err.put(told.line.as_bytes()) {
-        Ok(()) => told.status,
         Err(SinkError::Failed) => Status::SinkFault,
         Err(SinkError::NoMemory) => tell_no_memory(err),
     }
@@ -92,7 +77,7 @@ fn outcome_of(alloc: Global, image: &Verified<'_>, steps: u64) -> Result<Outcome
 /// The status of a run with this outcome over `steps` entries, and its line.
 fn told_of(alloc: Global, outcome: Outcome, steps: u64) -> Result<Told, NoMemory>
     ensures status { IfOk result (λ told. told.status ≡ status_of steps outcome) }
-    ensures line { IfOk result (λ told. (bytes : List ℕ) → IsLine told.status bytes (string_bytes told.line)) }
+    ensures line { IfOk result (λ told. (name bytes : List ℕ) → IsLine told.status (Run name steps) bytes (string_bytes told.line)) }
 {
     match outcome {
         Outcome::Running => {

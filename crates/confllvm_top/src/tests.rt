@@ -2,7 +2,7 @@
 
 mod rows;
 
-use self::rows::{CODES, PREFIX, RUNS};
+use self::rows::{CODES, LISTINGS, PREFIX, RUNS};
 use super::*;
 use cv_io::{MemSink, MemStore};
 use cv_word::NoMemory;
@@ -87,6 +87,22 @@ fn tells_the_outcome_of_a_run(rt: HostRuntime) -> Result<(), Fail> {
     Ok(())
 }
 
+/// Codes that break a later rule have their listing too.
+#[test]
+fn tells_the_listing_of_a_code(rt: HostRuntime) -> Result<(), Fail> {
+    for (code, status, text) in &LISTINGS {
+        let bytes = image(rt.alloc(), PREFIX, code)?;
+        assert_told(
+            &rt,
+            rt.alloc(),
+            bytes.as_slice(),
+            &["disasm", "img"],
+            (*status, text, b""),
+        )?;
+    }
+    Ok(())
+}
+
 #[test]
 fn tells_the_place_of_a_wrong_form(rt: HostRuntime) -> Result<(), Fail> {
     let mut long = Vec::new(rt.alloc());
@@ -99,6 +115,7 @@ fn tells_the_place_of_a_wrong_form(rt: HostRuntime) -> Result<(), Fail> {
     ];
     for (bytes, line) in cases {
         assert_told(&rt, rt.alloc(), bytes, &["verify", "img"], (1, line, b""))?;
+        assert_told(&rt, rt.alloc(), bytes, &["disasm", "img"], (1, line, b""))?;
         assert_told(&rt, rt.alloc(), bytes, &["run", "img", "9"], (1, b"", line))?;
     }
     Ok(())
@@ -118,23 +135,19 @@ fn tells_an_entry_at_the_call_word(rt: HostRuntime) -> Result<(), Fail> {
     )
 }
 
-/// Words over a store that has the file `img` alone.
+/// Words over a store that has the file `img` alone. Words are read before a file is loaded.
 #[test]
 fn tells_usage_and_a_missing_file(rt: HostRuntime) -> Result<(), Fail> {
-    let cases: [(&[&str], u8, &[u8]); 13] = [
+    let cases: [(&[&str], u8, &[u8]); 9] = [
         (&[], 2, b"usage fault\n"),
         (&["frobnicate"], 2, b"usage fault\n"),
         (&["verify"], 2, b"usage fault\n"),
         (&["verify", "gone"], 3, b"store fault gone\n"),
-        (&["run", "img"], 2, b"usage fault\n"),
-        (&["run", "-img", "5"], 2, b"usage fault\n"),
-        (&["run", "img", ""], 2, b"usage fault\n"),
-        (&["run", "img", "-1"], 2, b"usage fault\n"),
-        (&["run", "img", "+1"], 2, b"usage fault\n"),
-        (&["run", "img", "1x"], 2, b"usage fault\n"),
-        (&["run", "img", "1000000001"], 2, b"usage fault\n"),
+        (&["verify", "--", "-gone"], 3, b"store fault -gone\n"),
         (&["run", "gone", "1x"], 2, b"usage fault\n"),
         (&["run", "gone", "5"], 3, b"store fault gone\n"),
+        (&["disasm", "img", "img"], 2, b"usage fault\n"),
+        (&["disasm", "gone"], 3, b"store fault gone\n"),
     ];
     for (texts, status, line) in cases {
         assert_told(&rt, rt.alloc(), &SMALL, texts, (status, b"", line))?;
@@ -153,6 +166,14 @@ fn tells_a_failing_store_and_sink(rt: HostRuntime) -> Result<(), Fail> {
     let status = confllvm(alloc, &line, &mut store, &mut out, &mut err);
     assert_eq!(rt; status.code(), 4);
     assert_eq!(rt; out.bytes(), b"acc".as_slice());
+    assert_eq!(rt; err.bytes(), b"".as_slice());
+
+    let listing = words(alloc, &["disasm", "img"])?;
+    let mut third = MemSink::new(alloc);
+    third.fail_at(1, 5)?;
+    let status = confllvm(alloc, &listing, &mut store, &mut third, &mut err);
+    assert_eq!(rt; status, Status::SinkFault);
+    assert_eq!(rt; third.bytes(), b"00010".as_slice());
     assert_eq!(rt; err.bytes(), b"".as_slice());
 
     let mut failing = MemStore::new(alloc);

@@ -3,15 +3,15 @@
 ghost use Rattle.std.specs.Prelude.{◌≤◌, ℕ, List, IfOk};
 ghost use Rattle.std.specs.String.{string_bytes};
 ghost use Rattle.confllvm_top.specs.Answers.{IsAnswer};
-ghost use Rattle.confllvm_top.specs.Commands.{Verify};
+ghost use Rattle.command_line.specs.Commands.{Verify};
 ghost use Rattle.confllvm_top.specs.Endings.{Ends};
 ghost use Rattle.confllvm_top.specs.Streams.{stream};
 
 use crate::lines;
 use crate::status::Status;
-use crate::telling::{Told, tell_no_memory};
+use crate::telling::{Told, put_told, tell_no_memory};
 use conf_verify::{VerifyError, verify};
-use cv_io::{Sink, SinkError};
+use cv_io::Sink;
 use cv_word::NoMemory;
 use std::alloc::Global;
 
@@ -29,11 +29,7 @@ pub(crate) fn tell_verdict<O: Sink, E: Sink>(
     let Ok(told) = verdict_of(alloc, bytes) else {
         return tell_no_memory(err);
     };
-    match out.put(told.line.as_bytes()) {
-        Ok(()) => told.status,
-        Err(SinkError::Failed) => Status::SinkFault,
-        Err(SinkError::NoMemory) => tell_no_memory(err),
-    }
+    put_told(&told, out, err)
 }
 
 /// Verifies the bytes, and writes the line that tells what they are.

@@ -487,3 +487,32 @@ pub static RUNS: [(&[u8], &str, u8, &[u8]); 35] = [
         b"fault core 0 at 0x10008 Memory\n",
     ),
 ];
+
+/// A code with the first prefix, the exit status of `disasm`, and what it puts.
+pub static LISTINGS: [(&[u8], u8, &[u8]); 5] = [
+    (
+        b"\x0f\x11\xa1\xa2\xa3\xa4\xa5\xa6\x0f\x0b",
+        0,
+        b"00010000: 0f11a1a2a3a4a5a6 callword 0f\n00010008: 0f0b ud2\n",
+    ),
+    (
+        b"\x0f\x11\xa1\xa2\xa3\xa4\xa5\xa6\x40\xb8\x00\x00\x00\x00\x48\x81\xf8\x00\x00\x00\x00\x0f\x84\x08\x00\x00\x00\x48\x89\xf8\xe9\xeb\xff\xff\xff\x0f\x0b",
+        0,
+        b"00010000: 0f11a1a2a3a4a5a6 callword 0f\n00010008: 40b800000000 movimm32 rax, 0x0\n0001000e: 4881f800000000 cmpi rax, 0\n00010015: 0f8408000000 jcce 0x10023\n0001001b: 4889f8 mov rax, rdi\n0001001e: e9ebffffff jmp 0x1000e\n00010023: 0f0b ud2\n",
+    ),
+    (
+        b"\x0f\x11\xa1\xa2\xa3\xa4\xa5\xa6\xe8\x22\x00\x00\x00\x00\x22\xa1\xa2\xa3\xa4\xa5\xa6\x0f\x0b\xe8\x13\x00\x00\x00\x00\x22\xa1\xa2\xa3\xa4\xa5\xa6\x90\x0f\x0b\x0f\x11\xa1\xa2\xa3\xa4\xa5\xa6\x40\xb8\x1c\x00\x01\x00\x64\x67\x48\x89\x84\x24\x00\x00\x00\x00\x64\x67\x44\x8b\x94\x24\x00\x00\x00\x00\x48\x81\xc4\x08\x00\x00\x00\x49\xbb\xff\xdd\x5e\x5d\x5c\x5b\x5a\x59\x49\xf7\xd3\x67\x4d\x3b\x9a\x00\x00\x00\x00\x0f\x84\x02\x00\x00\x00\x0f\x0b\x49\x81\xc2\x08\x00\x00\x00\x41\xff\xe2",
+        0,
+        b"00010000: 0f11a1a2a3a4a5a6 callword 0f\n00010008: e822000000 call 0x1002f\n0001000d: 0022a1a2a3a4a5a6 retword 0\n00010015: 0f0b ud2\n00010017: e813000000 call 0x1002f\n0001001c: 0022a1a2a3a4a5a6 retword 0\n00010024: 90 nop\n00010025: 0f0b ud2\n00010027: 0f11a1a2a3a4a5a6 callword 0f\n0001002f: 40b81c000100 movimm32 rax, 0x1001c\n00010035: 64674889842400000000 store fs:[rsp+0], rax\n0001003f: 6467448b9424000000004881c40800000049bbffdd5e5d5c5b5a5949f7d3674d3b9a000000000f84020000000f0b4981c20800000041ffe2 return-unit 0\n",
+    ),
+    (
+        b"\x0f\x11\xa1\xa2\xa3\xa4\xa5\xa6\x90",
+        0,
+        b"00010000: 0f11a1a2a3a4a5a6 callword 0f\n00010008: 90 nop\n",
+    ),
+    (
+        b"\x0f\x11\xa1\xa2\xa3\xa4\xa5\xa6\x90\xff",
+        1,
+        b"refused V2 at 0x10009\n",
+    ),
+];

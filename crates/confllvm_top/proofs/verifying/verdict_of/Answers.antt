@@ -4,7 +4,7 @@ use Rattle.confllvm_top.proofs.verifying.verdict_of.Goals as goal
 pub returns-in_ok-line-in-Ok : goal.returns-in_ok-line-in-Ok
 returns-in_ok-line-in-Ok c = λ name. record {
   answers = c.in-Ok.ensures.accepted;
-  noninterfering = λ _. c.accepted_law.ensures _ (λ i. omega (arith, c.type_inv.bytes i)) c.in-Ok.ensures.accepted;
+  noninterfering = λ _ _. c.accepted_law.ensures _ (λ i. omega (arith, c.type_inv.bytes i)) c.in-Ok.ensures.accepted;
   tells = record {
     checked = c.in-Ok.verified;
     image = search rules;

@@ -1,0 +1,9 @@
+use Rattle.std.specs.String.{string_bytes}
+use Rattle.command_line.specs.Commands.{Disasm}
+use Rattle.confllvm_top.proofs.EndingLemmas.{out_ends}
+use Rattle.confllvm_top.proofs.listing.tell_listing.Goals as goal
+
+pub returns-clause-ends : goal.returns-clause-ends
+returns-clause-ends g c = λ name.
+    out_ends (Disasm name) c.args.bytes.now (string_bytes c.in-Ok.told.line) c.put_told.result c.in-Ok.told.status _ _
+    (λ got quiet. (got, quiet)) (λ front quiet. (front, quiet)) (c.in-Ok.ensures name) c.put_told.ensures.line

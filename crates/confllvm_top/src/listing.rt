@@ -1,0 +1,58 @@
+//! What `disasm` does with the bytes of a file.
+
+ghost use Rattle.std.specs.Prelude.{◌≤◌, ℕ, List, IfOk};
+ghost use Rattle.std.specs.String.{string_bytes};
+ghost use Rattle.command_line.specs.Commands.{Disasm};
+ghost use Rattle.confllvm_top.specs.Answers.{IsAnswer};
+ghost use Rattle.confllvm_top.specs.Endings.{Ends};
+ghost use Rattle.confllvm_top.specs.Streams.{stream};
+
+use crate::lines;
+use crate::status::Status;
+use crate::telling::{Told, put_told, tell_no_memory};
+use conf_verify::{VerifyError, list_items};
+use cv_io::Sink;
+use cv_word::NoMemory;
+use disasm_text::{listing_law, listing_text};
+use std::alloc::Global;
+
+/// Puts the listing of the bytes' code to `out`, a line for each item, or the line of the refusal.
+pub(crate) fn tell_listing<O: Sink, E: Sink>(
+    alloc: Global,
+    bytes: &[u8],
+    out: &mut O,
+    err: &mut E,
+) -> Status
+    ensures ends { (name : List ℕ) → Ends result (Disasm name) bytes.now (stream O.held O.faults out.old out.new) (stream E.held E.faults err.old err.new) }
+    ensures out_counted { O.faults out.old ≤ O.faults out.new }
+    ensures err_counted { E.faults err.old ≤ E.faults err.new }
+{
+    let Ok(told) = listing_of(alloc, bytes) else {
+        return tell_no_memory(err);
+    };
+    put_told(&told, out, err)
+}
+
+/// The text of the bytes' listing, or the line of the refusal.
+fn listing_of(alloc: Global, bytes: &[u8]) -> Result<Told, NoMemory>
+    ensures { IfOk result (λ told. (name : List ℕ) → IsAnswer told.status (Disasm name) bytes.now (string_bytes told.line)) }
+{
+    match list_items(alloc, bytes) {
+        Ok(listing) => {
+            listing_law();
+            let line = listing_text(alloc, &listing)?;
+            Ok(Told {
+                status: Status::Done,
+                line,
+            })
+        }
+        Err(VerifyError::Refused { rule, at }) => {
+            let line = lines::refused(alloc, rule, at)?;
+            Ok(Told {
+                status: Status::Refused { rule, at },
+                line,
+            })
+        }
+        Err(VerifyError::NoMemory) => Err(NoMemory),
+    }
+}
