@@ -29,7 +29,7 @@ definition_of (Disasm name) = disasm
 abbrev pub HasName : App → List (List ℕ) → List ℕ → Type 0
 HasName definition words name = value_of definition words (codes "NAME") ≡ Some name
 
--- the value of STEPS is digits, and this is their number
+-- the value of STEPS is digits, and this is their number, at most 1,000,000,000
 pub record HasSteps (definition : App) (words : List (List ℕ)) (steps : ℕ) : Type 0 where
   pub digits : List ℕ
   pub has : value_of definition words (codes "STEPS") ≡ Some digits
@@ -47,6 +47,6 @@ pub record IsCommand (words : List (List ℕ)) (command : Command) : Type 0 wher
   pub takes : Takes (definition_of command) words
   pub values : HasValues words command
 
--- the words say none
+-- the words say no command
 abbrev pub IsNoCommand : List (List ℕ) → Type 0
 IsNoCommand words = (command : Command) → IsCommand words command → ⊥

@@ -1,7 +1,7 @@
 -- The definitions of the commands, by which clap reads words, and what it makes of the words. A word is the list of its bytes.
 --
 -- By clap's rules the first `--` among them ends the options and is no value. Before it a word that begins with `-` names an
--- option, unless it is `-` alone; the commands have none but `-h` and `--help`, and with those there are no matches.
+-- option, unless it is `-` alone; there are none but `-h` and `--help`, which ask for help, so no words with one have matches.
 use Rattle.std.specs.Prelude.{◌≡◌, true, List, [], ◌∷◌, Option, Some, codes, fold, slice_get}
 use Rattle.clap.specs.Words.{App, Rule, Text, fault_of, first_of, matches_of, new_app, new_rule, with_rule}
 use Rattle.clap.specs.declared.builder.action.ArgAction.TheVariants.{Set}

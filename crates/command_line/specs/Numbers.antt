@@ -1,4 +1,4 @@
--- Numbers as words of decimal digits.
+-- Words of decimal digits, and the numbers that they are.
 use Rattle.std.specs.Prelude.{◌≡◌, ◌+◌, ◌-◌, ◌*◌, ◌<◌, ℕ, List, length, All, fold}
 use Rattle.std.specs.Char.{IsAsciiDigit}
 

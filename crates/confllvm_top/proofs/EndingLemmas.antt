@@ -183,18 +183,17 @@ OneCommand = (words : List (List ℕ)) (mine yours : Command) → IsCommand word
 
 module _ (words : List (List ℕ)) (files : Option Files) (command : Command) (bytes : List ℕ) (status : Status) (out err : Stream)
     (loaded : AreLoaded words files command bytes) (ends : Ends status command bytes out err) where
-  pub ended-checked : OneCommand → (other : Command) → IsCommand words other → checks other ≡ true → is_passed status ≡ true → IsChecked words files
+  pub ended-checked : OneCommand → (other : Command) → IsCommand words other → checks other ≡ true → is_passed status ≡ true → IsChecked words files other
   ended-checked one other said checked passed =
       let told = ends-told status command bytes out err ends (passed_told status passed) in
       let same = one words other command said loaded.said in
       let mine : checks command ≡ true = subst (λ (c : Command). checks c ≡ true) same checked in
-      record {
-        command = command;
+      subst (λ (c : Command). IsChecked words files c) (sym same) (record {
         bytes = bytes;
         loaded = loaded;
         accepted = passed_accepted status command bytes told.answer.answers mine passed;
         noninterfering = told.answer.noninterfering mine passed;
-      }
+      })
 
   pub ended-told : is_told status ≡ true → HasEnded status words files out err
   ended-told e = record { command = command; bytes = bytes; loaded = loaded; told = ends-told status command bytes out err ends e }

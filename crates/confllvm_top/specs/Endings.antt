@@ -11,7 +11,7 @@ use Rattle.confllvm_top.specs.Statuses.{is_passed}
 use Rattle.confllvm_top.specs.Streams.{Stream, HasGot, HasGotNothing, HasFailed, HasGotFront, MayHaveGot}
 use Rattle.confllvm_top.specs.Answers.{IsAnswer}
 
--- The words say the command, and these are the bytes of its file. A store that doesn't tell its files gives some bytes.
+-- The words say the command, and these are the bytes of its file. Where the store doesn't tell its files, they may be any bytes.
 pub record AreLoaded (words : List (List ℕ)) (files : Option Files) (command : Command) (bytes : List ℕ) : Type 0 where
   pub said : IsCommand words command
   pub has : HasFile files (name_of command) bytes
@@ -35,7 +35,7 @@ Puts (Verify name) line out err = HasGot line out × HasGotNothing err
 Puts (Disasm name) line out err = HasGot line out × HasGotNothing err
 Puts (Run name steps) line out err = HasGotNothing out × HasGot line err
 
--- Of these puts one has failed, after which nothing was put: that of the line, of which there is a front; or, where a run
+-- A put at a command's end has failed, after which nothing was put: that of the line, of which there is a front; or, where a run
 -- has ended, that of its output before the line.
 abbrev pub PutsFront : Command → Status → List ℕ → Stream → Stream → Type 0
 PutsFront (Verify name) status line out err = HasGotFront line out × HasGotNothing err
@@ -72,16 +72,15 @@ pub record HasEnded (status : Status) (words : List (List ℕ)) (files : Option 
   pub loaded : AreLoaded words files command bytes
   pub told : HasTold status command bytes out err
 
--- that command was about to end, and a put failed
+-- the command that the words say, with the bytes of its file, was about to end, and a put failed
 pub record HasFailedToEnd (words : List (List ℕ)) (files : Option Files) (out err : Stream) : Type 0 where
   pub command : Command
   pub bytes : List ℕ
   pub loaded : AreLoaded words files command bytes
   pub cut_off : WasCutOff command bytes out err
 
--- the loaded bytes are accepted and noninterfering
-pub record IsChecked (words : List (List ℕ)) (files : Option Files) : Type 0 where
-  pub command : Command
+-- the bytes that the command has loaded are accepted and noninterfering
+pub record IsChecked (words : List (List ℕ)) (files : Option Files) (command : Command) : Type 0 where
   pub bytes : List ℕ
   pub loaded : AreLoaded words files command bytes
   pub accepted : IsAccepted bytes

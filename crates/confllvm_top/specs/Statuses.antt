@@ -14,7 +14,7 @@ code_of (Fault core at kind) = 5
 code_of (Steps used) = 6
 code_of NoMemory = 9
 
--- A command that checks the bytes of its file before all else; `disasm` lists them only.
+-- whether a command checks the bytes of its file before all else; `disasm` only lists them
 abbrev pub checks : Command → Bool
 checks (Disasm name) = false
 checks _ = true

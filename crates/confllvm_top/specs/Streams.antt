@@ -34,7 +34,7 @@ HasFailed s = HasRisen s.faults_before s.faults
 abbrev pub HasGotFront : List ℕ → Stream → Type 0
 HasGotFront piece s = AppendsFront s.held_before piece s.held × HasFailed s
 
--- After a put whose answer is not looked at: it has got the piece; or nothing, where memory was refused; or a front of it,
--- where it has failed.
+-- After a put whose answer is not looked at: it has got the piece; or nothing, as where memory was refused, which nothing
+-- shows; or a front of it, where it has failed.
 abbrev pub MayHaveGot : List ℕ → Stream → Type 0
 MayHaveGot piece s = HasGot piece s ⊎ HasGotNothing s ⊎ HasGotFront piece s

@@ -26,8 +26,9 @@ use std::alloc::Global;
 /// Does the command that `words` say, those after the program's name, and answers how it ended.
 ///
 /// The commands are `verify NAME`, `run NAME STEPS` and `disasm NAME`, as `command_line` reads them; all
-/// other words are `Usage`. Each loads the file; `verify` and `run` verify its bytes as an image. A failing
-/// or missing file is `StoreFault`.
+/// other words are `Usage`, and then nothing is loaded. Each loads the file; `verify` and `run` verify its
+/// bytes as an image. A missing file is `StoreFault`, and so is a failing store. Where memory is refused, the
+/// answer is `NoMemory`.
 ///
 /// `verify` puts to `out` the line `accepted procedures P items I` of `Done`, or that of `Refused`,
 /// `refused V1 at place P` or `refused RULE at 0xA`. `disasm` puts to `out` the listing of the image's code,
@@ -46,8 +47,8 @@ pub fn confllvm<S: Store, O: Sink, E: Sink>(
     out: &mut O,
     err: &mut E,
 ) -> Status
-    // Wherever `verify` or `run` passed its check, the loaded bytes are accepted and noninterfering.
-    ensures checked { (command : said.Command) → IsCommand (map string_bytes words.now) command → checks command ≡ true → is_passed result ≡ true → IsChecked (map string_bytes words.now) (S.contents store.old) }
+    // Where `verify` or `run` ends and has passed its check, the loaded bytes are accepted and noninterfering.
+    ensures checked { (command : said.Command) → IsCommand (map string_bytes words.now) command → checks command ≡ true → is_passed result ≡ true → IsChecked (map string_bytes words.now) (S.contents store.old) command }
     // An answer is that of the command to the loaded bytes, and its line and nothing else is put.
     ensures told { is_told result ≡ true → HasEnded result (map string_bytes words.now) (S.contents store.old) (stream O.held O.faults out.old out.new) (stream E.held E.faults err.old err.new) }
     // A file that is told is answered by what its bytes are, unless there is a fault or memory is refused.
@@ -61,9 +62,10 @@ pub fn confllvm<S: Store, O: Sink, E: Sink>(
     ensures sink_fault { result ≡ Status.SinkFault → HasFailed (stream O.held O.faults out.old out.new) ⊎ HasFailed (stream E.held E.faults err.old err.new) }
     // What both sinks have got then: the command was about to tell its answer, and a put failed.
     ensures cut_off { result ≡ Status.SinkFault → HasFailedToEnd (map string_bytes words.now) (S.contents store.old) (stream O.held O.faults out.old out.new) (stream E.held E.faults err.old err.new) }
-    // What `out` and `err` have got with the other three.
-    ensures out_usage { result ≡ Status.Usage → HasGotNothing (stream O.held O.faults out.old out.new) }
-    ensures out_store_fault { result ≡ Status.StoreFault → HasGotNothing (stream O.held O.faults out.old out.new) }
+    // With Usage nothing is loaded. What `out` and `err` have got with Usage, StoreFault and NoMemory.
+    ensures not_loaded { result ≡ Status.Usage → store.new ≡ store.old }
+    ensures out_usage { result ≡ Status.Usage → out.new ≡ out.old }
+    ensures out_store_fault { result ≡ Status.StoreFault → out.new ≡ out.old }
     ensures out_no_memory { result ≡ Status.NoMemory → HasGotNothing (stream O.held O.faults out.old out.new) }
     ensures err_usage { result ≡ Status.Usage → MayHaveGot usage_line (stream E.held E.faults err.old err.new) }
     ensures err_store_fault { result ≡ Status.StoreFault → (command : said.Command) × IsCommand (map string_bytes words.now) command × MayHaveGot (store_fault_line (name_of command)) (stream E.held E.faults err.old err.new) }

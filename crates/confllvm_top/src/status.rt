@@ -44,7 +44,7 @@ impl Status {
             Status::NoMemory => 9,
         }
     }
-    /// Whether the command has found the bytes of its file accepted.
+    /// Whether the command did its work with the bytes of its file, and didn't refuse them.
     pub(crate) fn is_passed(&self) -> bool
         ensures { result ≡ is_passed self.now }
     {
