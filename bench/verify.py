@@ -1,6 +1,7 @@
-"""Images of several shapes: seconds of `verify` and of `objdump -D`, and steps a second of `run`."""
+"""Images of several shapes: seconds of `verify` and of `objdump -D`, and steps a second of `run` and of an emulator."""
 
 import os
+import shutil
 import struct
 import subprocess
 import sys
@@ -115,12 +116,19 @@ def time_verify(program, folder):
 
 
 def time_run(program, folder):
-    # a loop: mov r8, 4096; a load and a store of 8 bytes; add rax, rcx; nop; and back
-    body = bytes.fromhex("41b800100000 6567498b8000000000 656749898000000000 4801c8 90")
-    code = CALL_WORD + body + b"\xe9" + struct.pack("<i", -len(body) - 5)
+    # mov ecx, 1; then a loop: mov r8, 4096; a load of 8 bytes; add rax, rcx; a store; nop; and back
+    body = bytes.fromhex("41b800100000 6567498b8000000000 4801c8 656749898000000000 90")
+    code = CALL_WORD + bytes.fromhex("40b901000000") + body + b"\xe9" + struct.pack("<i", -len(body) - 5)
     path = written(folder, "loop", image(code))
     spent, _ = best([program, "run", path, "100000000"], 6)
     print(f"\n`run`: {100 / spent:.1f} million steps a second")
+    if shutil.which("qemu-x86_64") and shutil.which("gcc"):
+        source, loop = os.path.join(os.path.dirname(__file__), "loop.c"), os.path.join(folder, "loop.exe")
+        subprocess.run(["gcc", "-O2", "-static", "-o", loop, source], check=True)
+        told = subprocess.run(["qemu-x86_64", loop], check=True, capture_output=True, text=True).stdout.strip()
+        print(f"`qemu-x86_64` on the same loop: {told} million steps a second")
+    else:
+        print("`qemu-x86_64` and gcc aren't both here, so the loop isn't timed under an emulator")
 
 
 def main():

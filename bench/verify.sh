@@ -1,6 +1,6 @@
 #!/bin/sh
 # Times `confllvm verify` beside `objdump -D` on images of 64 KiB, 1 MiB and 4 MiB of six shapes, with the peak of memory, and
-# then the steps a second of `confllvm run`. Wants python3 and objdump.
+# then the steps a second of `confllvm run`, beside those of `qemu-x86_64` where that and gcc are there. Wants python3 and objdump.
 set -eu
 top=$(cd "$(dirname "$0")/.." && pwd)
 "$top/confllvm" verify "$top/examples/one.cfv" >/dev/null
