@@ -1,15 +1,13 @@
 -- What begins at a place of the code.
-use Rattle.std.proofs.Common.{◌≡◌, ◌≢◌, ℕ, suc, ◌+◌, ◌-◌, ◌<◌, ◌≤◌, Bool, true, false, List, [], ◌∷◌, ◌++◌, length, take, drop, get_or, Option, Some, None, refl, sym, ◌∙◌, ap, subst, arith, ◌⊎◌, inl, inr, length-append, length-take, length-drop}
+use Rattle.std.proofs.Common.{◌≡◌, ℕ, suc, ◌+◌, ◌-◌, ◌<◌, ◌≤◌, false, List, [], ◌∷◌, ◌++◌, length, take, drop, Option, Some, None, refl, sym, ◌∙◌, ap, subst, arith, length-append, length-take, length-drop}
 use Rattle.std.proofs.lemmas.List.{length-map}
-use Rattle.std.specs.Prelude.{IfSome, IfNone}
 use Rattle.std.specs.Option.{option_map}
-use Rattle.std.proofs.lemmas.Bool.{cases_eq}
 use Rattle.x64_decode.specs.Spelling.{number, rex, between, spelling}
 use Rattle.x64_decode.specs.Reading.{reg_of, instruction_at}
 use Rattle.x64_decode.specs.declared.instr.Reg.{Reg}
 use Rattle.x64_decode.specs.declared.instr.Instr.{Instr}
 use Rattle.x64_decode.proofs.Tables.{number_reg}
-use Rattle.magic_words.specs.MagicWords.{call_word, return_word, BeginsWord}
+use Rattle.magic_words.specs.MagicWords.{call_word, BeginsWord}
 use Rattle.magic_words.specs.declared.word.Word.{Word}
 use Rattle.magic_words.specs.declared.word.Word.TheVariants as word
 use Rattle.code_sweep.specs.Units.{inverse, check_tail, check_then, return_unit, call_unit}
@@ -58,9 +56,6 @@ first_cell a b c d xs ys e = cc
 
 kinds_differ : (a b : ℕ) → a ≡ 0x11 → b ≡ 0x22 → a ≡ b → ⊥
 kinds_differ a b e f same = omega arith
-
-two_kinds : (prefix bytes : List ℕ) (bits bit : ℕ) → BeginsWord bytes prefix (word.Call bits) → BeginsWord bytes prefix (word.Ret bit) → ⊥
-two_kinds prefix bytes bits bit a b = kinds_differ 0x11 0x22 refl refl (second_cell bits 0x11 bit 0x22 prefix prefix (sym a.stands ∙ b.stands))
 
 -- the item that a word is stands there
 pub word_stands : (prefix code : List ℕ) (place : ℕ) (w : Word) → length prefix ≡ 6 → place < length code → BeginsWord (drop place code) prefix w →

@@ -1,7 +1,7 @@
 -- A list of eight, cell by cell.
 use Rattle.std.proofs.Common.{◌≡◌, ℕ, ◌+◌, ◌*◌, ◌/◌, ◌%◌, ◌<◌, List, [], ◌∷◌, ◌++◌, length, get_or, refl, arith, ap, ◌∙◌, false}
 use Rattle.x64_decode.specs.Spelling.{rex, between}
-use Rattle.magic_words.specs.MagicWords.{call_word, return_word}
+use Rattle.magic_words.specs.MagicWords.{call_word}
 use Rattle.code_sweep.specs.Units.{inverse, check_tail, check_then, return_unit}
 
 pub eight : (w tail : List ℕ) → length w ≡ 8 →

@@ -1,11 +1,11 @@
 -- A code as one chain of items: the item at a place, and the chain that begins at the code's first byte.
-use Rattle.std.specs.Prelude.{◌≡◌, ℕ, ◌+◌, ◌<◌, Bool, true, false, List, [], ◌∷◌, length, take, drop, Some}
+use Rattle.std.specs.Prelude.{◌≡◌, ℕ, ◌+◌, ◌<◌, List, [], ◌∷◌, length, take, drop, Some}
 use Rattle.x64_decode.specs.Spelling.{spelling}
 use Rattle.x64_decode.specs.Reading.{instruction_at}
 use Rattle.x64_decode.specs.declared.instr.Reg.{Reg}
 use Rattle.x64_decode.specs.declared.instr.Instr.{Instr}
 use Rattle.x64_decode.specs.declared.instr.Instr.TheVariants.{CmpFlat, JmpR10, CallR10}
-use Rattle.magic_words.specs.MagicWords.{call_word, return_word, BeginsWord}
+use Rattle.magic_words.specs.MagicWords.{call_word, return_word}
 use Rattle.magic_words.specs.declared.word.Word.{Word}
 use Rattle.magic_words.specs.declared.word.Word.TheVariants as word
 use Rattle.code_sweep.specs.Units.{return_unit, call_unit}

@@ -90,10 +90,6 @@ cond_one : (b : Bool) → cond b 1 0 ≤ 1
 cond_one true = omega arith
 cond_one false = omega arith
 
-pub few_call_words : (items : List Placed) → call_words items ≤ length items
-few_call_words [] = omega arith
-few_call_words (x ∷ xs) = let h = few_call_words xs in let g = cond_one (is_call_word x.item) in omega arith
-
 -- ---- the bits of the last call word
 
 or_none : (o : Option ℕ) → option_or o None ≡ o

@@ -54,12 +54,3 @@ count_first bytes place fault behind not = record {
   wrong = inr (refl, not);
   least = λ other low wrong. elim wrong [ inl at ↦ fault.least other (omega arith) at | inr count ↦ let five = count.0 in omega arith ];
 }
-
-pub early_fault : (bytes : List ℕ) (place : ℕ) → IsFault bytes place → place ≤ 5 → IsLeastWrong bytes place
-early_fault bytes place fault early = fault_first bytes place fault (inl early)
-
-pub late_fault : (bytes : List ℕ) (place : ℕ) → IsFault bytes place → slice_index bytes 5 ≡ 1 → IsLeastWrong bytes place
-late_fault bytes place fault one = fault_first bytes place fault (inr one)
-
-pub count_fault : (bytes : List ℕ) (place : ℕ) → IsFault bytes place → 5 < place → slice_index bytes 5 ≢ 1 → IsLeastWrong bytes 5
-count_fault bytes place fault behind not = count_first bytes place fault behind not

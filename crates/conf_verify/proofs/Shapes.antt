@@ -37,9 +37,6 @@ past_item items number place k n e past =
 
 -- ---- the tests at a place
 
-pub target_low : (items : List Placed) (i target : ℕ) → target < code_base → IsGoodTarget items i target → ⊥
-target_low items i target low h = let e = h.3 in omega arith
-
 pub target_none : (items : List Placed) (number : ℕ → Option ℕ) (i target : ℕ) → NumbersItems items number → (let o : Option ℕ = None in o) ≡ number (target - code_base) →
     IsGoodTarget items i target → ⊥
 target_none items number i target n e h = no_number items number (target - code_base) n e h.0 h.1 h.2 (let at = h.3 in omega arith)

@@ -1,6 +1,6 @@
 -- From what each search over a listing found to the verdict on the code, rule by rule.
-use Rattle.std.proofs.Common.{◌≡◌, ℕ, zero, suc, ◌+◌, ◌<◌, add-one, true, false, List, [], ◌∷◌, length, take, get_or, slice_index, Some, None, refl, sym, ◌∙◌, ap, subst, arith, ◌⊎◌, inl, inr, slice_get}
-use Rattle.std.proofs.lemmas.Bool.{cases_order, cases_lt, cases_Bool, true≢false}
+use Rattle.std.proofs.Common.{◌≡◌, ℕ, zero, suc, ◌+◌, ◌<◌, add-one, true, false, List, [], length, take, get_or, slice_index, Some, None, refl, sym, ◌∙◌, ap, subst, arith, ◌⊎◌, inl, inr, slice_get}
+use Rattle.std.proofs.lemmas.Bool.{cases_order, cases_lt, true≢false}
 use Rattle.std.proofs.lemmas.List.{drop_all}
 use Rattle.std.proofs.lemmas.Option.{same_Some, slice_get_within, slice_get-get_or}
 use Rattle.cv_word.specs.MemoryMap.{code_base}
@@ -15,7 +15,7 @@ use Rattle.taint_flow.specs.Places.{goes_on, NextStands}
 use Rattle.image_form.specs.Image.{Image, IsGood}
 use Rattle.conf_verify.specs.declared.rule.Rule.{Rule}
 use Rattle.conf_verify.specs.declared.rule.Rule.TheVariants.{V1, V2, V3, V4, V5, V6, V7, V8, V9, V10, V11, V12, V13, V14, V15, V16}
-use Rattle.conf_verify.specs.Rules.{BreaksShape, BreaksPrefix, BreaksEntries, HasReturnWord, fits_result, FollowsCall, FollowsCallWord, IsLast, is_call_word, may_end, is_flow_rule, rule_number}
+use Rattle.conf_verify.specs.Rules.{BreaksShape, BreaksPrefix, HasReturnWord, fits_result, FollowsCall, FollowsCallWord, IsLast, is_call_word, may_end, is_flow_rule, rule_number}
 use Rattle.taint_flow.specs.Calls.{callee, call_target, is_call}
 use Rattle.conf_verify.specs.Search.{BadBy, BadEnd, BadReturn, BadJump, BadCall, BadResult, BadOccurrence, is_item_rule}
 use Rattle.conf_verify.specs.Verdict.{HasListing}
@@ -68,9 +68,6 @@ more_holds image items r n is below none rule place low b =
 none_below : (image : Image) (items : List Placed) → HoldsBelow image items 1
 none_below image items rule place low b = let some = some_number rule in omega arith
 
-pub holds_three : (image : Image) (items : List Placed) → HoldsBelow image items 3
-holds_three image items = more_holds image items V2 2 refl (more_holds image items V1 1 refl (none_below image items) (λ place b. b)) (λ place b. b)
-
 pub holds_five : (image : Image) (items : List Placed) → HoldsBelow image items 4 → ((place : ℕ) → BreaksPrefix image.prefix image.code items place → ⊥) → HoldsBelow image items 5
 holds_five image items below none = more_holds image items V4 4 refl below none
 
@@ -92,14 +89,6 @@ number_of_last V13 h image items place b = b
 number_of_last V14 h image items place b = b
 number_of_last V15 h image items place b = b
 number_of_last V16 h image items place b = b
-
-pub holds_all : (image : Image) (items : List Placed) → HoldsBelow image items 9 → ((place : ℕ) → BreaksEntries image.entries items place → ⊥) → (rule : Rule) (place : ℕ) → BreaksShape rule image items place → ⊥
-holds_all image items below none rule place b =
-    let ten = more_holds image items V9 9 refl below none in
-    elim (cases_order (rule_number rule) 9) [
-      | inl same ↦ ten rule place (omega arith) b
-      | inr h ↦ elim h [ inl lower ↦ ten rule place (omega arith) b | inr higher ↦ number_of_last rule higher image items place b ]
-    ]
 
 -- ---- rules that speak of items one by one
 
@@ -201,15 +190,6 @@ holds_by_rule image items rule is none below =
 
 -- ---- V3
 
--- the first item is a call word
-pub first_is_call : (image : Image) (items : List Placed) → IsGood image → HasListing image items → HoldsBelow image items 4 → (first : Placed) × (slice_get items 0 ≡ Some first) × (is_call_word first.item ≡ true)
-first_is_call image [] good listing below = absurd (let h = good.code in let some = h.0 in let empty = listing in omega arith)
-first_is_call image (p ∷ ps) good listing below =
-    elim (cases_Bool (is_call_word p.item)) [
-      | inl is ↦ (p, refl, is)
-      | inr isnt ↦ absurd (below V3 p.at (omega arith) (0, p, refl, refl, inl (refl, isnt)))
-    ]
-
 -- an item that may end a procedure leads to none behind it
 falls_on : (item : Item) → goes_on item ≡ true → may_end item ≡ false
 falls_on (Call bits) e = refl
@@ -279,7 +259,3 @@ told_entry image items entry listing one e not below =
     told_shape image items listing V9 entry refl (0, entry, e, refl, not)
     (λ place low b. let same = one_only image.entries b.0 entry b.1 one e b.2 in let at = b.3 in omega arith)
     below
-
-pub no_entry : (image : Image) (items : List Placed) (entry : ℕ) → length image.entries ≡ 1 → slice_get image.entries 0 ≡ Some entry → FollowsCallWord items entry → (place : ℕ) → BreaksEntries image.entries items place → ⊥
-no_entry image items entry one e follows place b =
-    b.4 (subst (λ n. FollowsCallWord items n) (one_only image.entries b.0 entry b.1 one e b.2 ∙ b.3) follows)

@@ -224,7 +224,7 @@ fn check_shape(
     check_entry(parts, items, numbers)
 }
 
-/// A rule on single items, of which this is the first that breaks it.
+/// V3 and V5 to V8: refuses by the rule at the first item that breaks it, if there is one.
 fn check_items(
     parts: &Parts<'_>,
     items: &[Placed],

@@ -1,5 +1,5 @@
 -- Lists of occurrences that grow, and what a search for the prefix found.
-use Rattle.std.proofs.Common.{◌≡◌, ◌≢◌, ℕ, suc, ◌+◌, ◌-◌, ◌<◌, ◌≤◌, List, [], ◌∷◌, ◌++◌, length, take, drop, get_or, Option, Some, None, refl, sym, ◌∙◌, ap, subst, arith, ◌⊎◌, inl, inr, length-append, length-drop, drop-drop, length-take, min}
+use Rattle.std.proofs.Common.{◌≡◌, ℕ, suc, ◌+◌, ◌-◌, ◌<◌, ◌≤◌, List, [], ◌∷◌, ◌++◌, length, take, drop, get_or, Option, Some, None, sym, ◌∙◌, ap, subst, arith, inl, inr, length-append, length-drop, drop-drop, length-take}
 use Rattle.std.proofs.lemmas.Bool.{cases_eq, cases_lt}
 use Rattle.std.proofs.Math.Seq.{get_or-append_seam}
 use Rattle.std.proofs.lemmas.List.{get_or_append_left}
@@ -8,13 +8,6 @@ use Rattle.memchr.specs.Find.{OccursAt, FindsNeedle}
 use Rattle.memchr.proofs.lemmas.MatchLemmas.{OccursAt-part, OccursAt-from_part}
 use Rattle.magic_words.specs.MagicWords.{IsOccurrence, NoneBetween, AreOccurrences}
 
-pub none_yet : (prefix code : List ℕ) → AreOccurrences prefix code 0 []
-none_yet prefix code = record {
-  each = λ k h. absurd (omega arith);
-  all = λ place h is. absurd (omega arith);
-  rising = λ i j h g. absurd (omega arith);
-}
-
 -- where the prefix stands nowhere from one bound to another, the list stays
 pub skipped : (prefix code : List ℕ) (bound next : ℕ) (places : List ℕ) → bound ≤ next → AreOccurrences prefix code bound places → NoneBetween prefix code bound next → AreOccurrences prefix code next places
 skipped prefix code bound next places le are none = record {
@@ -22,14 +15,6 @@ skipped prefix code bound next places le are none = record {
   all = λ place h is. elim (cases_lt place bound) [ inl below ↦ are.all place below is | inr above ↦ absurd (none place above h is) ];
   rising = are.rising;
 }
-
--- one more at the bound
-more_at : (places : List ℕ) (place k : ℕ) → k < length (places ++ place ∷ []) → (get_or (places ++ place ∷ []) k 0 ≡ get_or places k 0) ⊎ ((k ≡ length places) × (get_or (places ++ place ∷ []) k 0 ≡ place))
-more_at places place k h =
-    elim (cases_eq k (length places)) [
-      | inl last ↦ inr (last, ap (λ n. get_or (places ++ place ∷ []) n 0) last ∙ get_or-append_seam places place [] 0)
-      | inr inside ↦ inl (get_or_append_left places (place ∷ []) 0 k (let e = length-append places (place ∷ []) in omega arith))
-    ]
 
 each_more : (prefix code : List ℕ) (place : ℕ) (places : List ℕ) → AreOccurrences prefix code place places → IsOccurrence prefix code place →
     (k : ℕ) → k < length (places ++ place ∷ []) → (get_or (places ++ place ∷ []) k 0 < suc place) × IsOccurrence prefix code (get_or (places ++ place ∷ []) k 0)

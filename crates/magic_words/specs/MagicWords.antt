@@ -1,5 +1,5 @@
 -- The words of 8 bytes that mark a procedure or a return: a taint byte, a kind byte and the image's prefix of six bytes.
-use Rattle.std.specs.Prelude.{◌≡◌, ℕ, ◌<◌, ◌≤◌, List, ◌∷◌, ◌++◌, length, take, drop, slice_index}
+use Rattle.std.specs.Prelude.{◌≡◌, ℕ, ◌<◌, ◌≤◌, List, ◌∷◌, length, take, drop, slice_index}
 use Rattle.magic_words.specs.declared.word.Word.{Word}
 use Rattle.magic_words.specs.declared.word.Word.TheVariants.{Call, Ret}
 

@@ -19,9 +19,6 @@ kept_at : (l : Label) (k i : ℕ) (private : Bool) → l k ≡ private → (i �
 kept_at l k i private h (inl e) = (ap l e ∙ h) ∙ sym (cond-true (eqb i k) private (l i) (eq-eqb i k e))
 kept_at l k i private h (inr n) = sym (cond-false (eqb i k) private (l i) (ne_eqb i k n))
 
-pub set_kept : (n k : ℕ) (private : Bool) → label_of n k ≡ private → label_of n ≡ set k private (label_of n)
-set_kept n k private h = fun_ext (λ i. kept_at (label_of n) k i private h (cases_eq i k))
-
 turned_at : (n k i : ℕ) (private : Bool) → (label_of n k ≡ private → ⊥) → (i ≡ k) ⊎ (i ≡ k → ⊥) →
     label_of (bit_xor n (2 ^ k)) i ≡ set k private (label_of n) i
 turned_at n k i private h (inl e) =

@@ -249,15 +249,6 @@ highest_more count i stack h s = record {
       omega arith);
 }
 
-pub highest_none : (count : ℕ) → Highest count 0 []
-highest_none count = record {
-  inside = λ k d h. absurd (omega arith);
-  there = λ k a b. absurd (omega arith);
-  absent = λ k a. refl;
-  past = λ k a. refl;
-  long = refl;
-}
-
 fresh_once : (count k : ℕ) (stack : List ℕ) → Highest count count stack → (k < count) ⊎ (count ≤ k) →
     times_on stack k ≡ one_if (get_or (replicate count true) k false)
 fresh_once count k stack h (inl small) =

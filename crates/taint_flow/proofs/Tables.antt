@@ -192,14 +192,6 @@ pub nowhere_more : (items : List Placed) (j place : ℕ) (q : Placed) → slice_
     BeginsNowhereBelow items (j + 1) place
 nowhere_more items j place q there n none k p less e = nowhere_each items j place q there n none k p less e (cases_eq k j)
 
--- no item before the entry of a place's block begins there
-pub nowhere_before : (items : List Placed) (firsts : List ℕ) (place : ℕ) →
-    ((i : ℕ) (p : Placed) → slice_get items i ≡ Some p → slice_index firsts (p.at / 16) ≤ i) →
-    BeginsNowhereBelow items (slice_index firsts (place / 16)) place
-nowhere_before items firsts place first k p less e =
-    let low : slice_index firsts (p.at / 16) ≤ k = first k p e in
-    λ same. let there : slice_index firsts (place / 16) ≤ k = subst (λ (x : ℕ). slice_index firsts (x / 16) ≤ k) same low in absurd (omega arith)
-
 -- no item begins behind the last block
 pub nowhere_past : (items : List Placed) (firsts : List ℕ) (place : ℕ) →
     ((i : ℕ) (p : Placed) → slice_get items i ≡ Some p → p.at / 16 < length firsts) → length firsts ≤ place / 16 → number_at items place ≡ None

@@ -1,12 +1,12 @@
 -- Places in a list of spans by offset: where a binary search ends, and what stands before and behind it.
-use Rattle.std.proofs.Common.{◌≡◌, ℕ, zero, suc, ◌+◌, ◌-◌, ◌<◌, ◌≤◌, ◌⊎◌, inl, inr, Bool, true, false, cond, eqb, ltb, Some, None, List, [], ◌∷◌, ◌++◌, length, get_or, take, drop, set, refl, sym, ◌∙◌, ap, subst, arith, append_assoc, length-drop}
+use Rattle.std.proofs.Common.{◌≡◌, ℕ, zero, suc, ◌+◌, ◌-◌, ◌<◌, ◌≤◌, ◌⊎◌, inl, inr, Bool, true, false, cond, eqb, ltb, Some, None, List, [], ◌∷◌, ◌++◌, length, get_or, take, drop, set, refl, sym, ◌∙◌, ap, subst, arith, length-drop}
 use Rattle.std.specs.Prelude.{find, position}
-use Rattle.std.specs.List.{AllWithin, position_or_len, insert, remove}
+use Rattle.std.specs.List.{AllWithin, position_or_len, insert}
 use Rattle.std.specs.List.Sorted.{IsNonDecreasingBy}
 use Rattle.std.specs.Option.{option_map_or}
 use Rattle.std.proofs.lemmas.Bool.{cases_lt, lt-ltb, le-ltb, ltb-true, ltb-false, eq-eqb, ne_eqb, eqb-true}
 use Rattle.std.proofs.lemmas.Option.{none-some, cond_some, slice_get-get_or, slice_get_past}
-use Rattle.std.proofs.lemmas.List.{take_more_set, drop-set-lt, set_split, get_or_default, drop_more, get_or-drop}
+use Rattle.std.proofs.lemmas.List.{set_split, get_or_default, drop_more, get_or-drop}
 use Rattle.std.proofs.lemmas.List.Folds.{find_at}
 use Rattle.cv_word.specs.Heap.{Span, end_of, span_between, starting_below, starting_above, ending_below, free_from, free_to, hole_between, replaced_at}
 use Rattle.two_heaps.specs.Kept.{Rises, Avoids, IsPlace, MayJoin, begins}
@@ -255,21 +255,9 @@ cut_items xs place hole size at len lt less same_at same_len =
 
 -- ---- some spans replaced by one
 
-pub inserted : (xs : List Span) (first last : ℕ) (span : Span) → first ≡ last → insert xs first span ≡ take first xs ++ span ∷ drop last xs
-inserted xs first last span e = ap (λ n. take first xs ++ span ∷ drop n xs) e
-
 pub written : (xs : List Span) (first last : ℕ) (span : Span) → first < length xs → last ≡ first + 1 → set xs first span ≡ take first xs ++ span ∷ drop last xs
 written xs first last span lt e =
     set_split xs first span lt ∙ ap (λ n. take first xs ++ span ∷ drop n xs) (let h : suc first ≡ last = omega arith in h)
-
-pub written_over_two : (xs : List Span) (first last : ℕ) (span : Span) → first < length xs → last ≡ first + 2 → remove (set xs first span) (first + 1) ≡ take first xs ++ span ∷ drop last xs
-written_over_two xs first last span lt e =
-    let front = take_more_set xs first span lt in
-    let back = drop-set-lt (suc (first + 1)) xs first span (omega arith) in
-    let far : suc (first + 1) ≡ last = omega arith in
-    ap (λ l. l ++ drop (suc (first + 1)) (set xs first span)) front
-    ∙ append_assoc (take first xs) (span ∷ []) (drop (suc (first + 1)) (set xs first span))
-    ∙ ap (λ l. take first xs ++ span ∷ l) back ∙ ap (λ n. take first xs ++ span ∷ drop n xs) far
 
 -- ---- the ends of what is merged
 

@@ -1,7 +1,7 @@
 -- A list of zeros into which some bytes are written.
-use Rattle.std.proofs.Common.{◌≡◌, ℕ, ◌+◌, ◌≤◌, List, ◌++◌, length, take, drop, replicate, refl, arith, length-append}
+use Rattle.std.proofs.Common.{◌≡◌, ℕ, ◌+◌, ◌≤◌, List, ◌++◌, length, take, drop, replicate, refl, arith}
 use Rattle.std.proofs.lemmas.Grind.{common_steps}
-use Rattle.std.proofs.lemmas.List.{take-replicate, drop-replicate, length-replicate}
+use Rattle.std.proofs.lemmas.List.{take-replicate, drop-replicate}
 use Rattle.cv_word.specs.Words.{spliced}
 use Rattle.x64_alu.specs.Memory.{padded}
 
@@ -11,11 +11,6 @@ unfolding padded
 spliced_zeros before size bytes h =
     let small : before ≤ size = omega arith in
     rw (take-replicate {X = ℕ} before size 0 small, drop-replicate {X = ℕ} (before + length bytes) size 0) refl
-
-pub length-padded : (before size : ℕ) (bytes : List ℕ) → before + length bytes ≤ size → length (padded before size bytes) ≡ size
-unfolding padded
-length-padded before size bytes h =
-    simp (length-append, length-replicate) (omega arith)
 
 -- what a list is after all of its places were written
 pub kept : (n : ℕ) (old new : List ℕ) → n ≡ length old → length new ≡ length old → take n (new ++ drop (length new) old) ≡ new

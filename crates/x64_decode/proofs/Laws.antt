@@ -1,13 +1,12 @@
 -- The laws of the table, as the contracts state them.
-use Rattle.std.proofs.Common.{◌≡◌, ℕ, suc, ◌+◌, ◌-◌, ◌*◌, ◌/◌, ◌%◌, ◌^◌, ◌<◌, ◌≤◌, Bool, true, false, cond, List, [], ◌∷◌, ◌++◌, length, drop, Option, Some, None, refl, sym, ◌∙◌, ap, subst, arith, eqb, ℤ, length-append, length-drop}
+use Rattle.std.proofs.Common.{◌≡◌, ℕ, ◌+◌, ◌-◌, ◌%◌, ◌<◌, ◌≤◌, Bool, true, false, cond, List, [], ◌∷◌, ◌++◌, length, drop, Option, Some, None, sym, ◌∙◌, ap, subst, arith, eqb, ℤ, length-append, length-drop}
 use Rattle.std.specs.Option.{option_map}
 use Rattle.std.proofs.lemmas.List.{get_or-drop}
-use Rattle.cv_word.specs.Words.{AreBytes, word_bytes}
-use Rattle.x64_decode.specs.declared.instr.Mem.{Mem}
+use Rattle.cv_word.specs.Words.{AreBytes}
 use Rattle.x64_decode.specs.declared.instr.Instr.{Instr}
-use Rattle.x64_decode.specs.declared.instr.Instr.TheVariants.{Mov, Alu, Test, Imul, Not, Neg, Idiv, Cqo, ShiftImm, ShiftCl, Movsxd, Movzx8, Movsx8, Setcc, Cmov, MovImm32, MovImm64, MovImmS, AluImm, Load, LoadZx8, LoadSx8, LoadSx32, Store, CmpFlat, JmpR10, CallR10, Call, Jmp, Jcc, Ud2, Nop}
-use Rattle.x64_decode.specs.Spelling.{number, signed_bytes, spelling, HasSpelling, Spells}
-use Rattle.x64_decode.specs.Reading.{Read, gives, read, instruction_at}
+use Rattle.x64_decode.specs.declared.instr.Instr.TheVariants.{Load, LoadZx8, LoadSx8, LoadSx32, Store}
+use Rattle.x64_decode.specs.Spelling.{number, signed_bytes, spelling, Spells}
+use Rattle.x64_decode.specs.Reading.{Read, read, instruction_at}
 use Rattle.x64_decode.proofs.Spelled.{again}
 use Rattle.x64_decode.proofs.Taken.{Took, TookOf, taken}
 

@@ -1,12 +1,12 @@
 -- Immediate numbers as bytes, both ways.
-use Rattle.std.proofs.Common.{◌≡◌, ℕ, zero, suc, ◌+◌, ◌*◌, ◌/◌, ◌%◌, ◌^◌, ◌<◌, ◌≤◌, List, [], ◌∷◌, ◌++◌, length, Option, Some, None, refl, sym, ◌∙◌, ap, subst, arith, ℤ, pos, negsuc}
+use Rattle.std.proofs.Common.{◌≡◌, ℕ, suc, ◌+◌, ◌*◌, ◌/◌, ◌%◌, ◌^◌, ◌<◌, List, [], ◌∷◌, ◌++◌, Option, Some, None, sym, ◌∙◌, ap, arith, ℤ}
 use Rattle.std.specs.Prelude.{FitsSigned}
-use Rattle.std.specs.Int.{w32, cast_signed, cast_unsigned}
+use Rattle.std.specs.Int.{w32, cast_unsigned}
 use Rattle.std.specs.Option.{option_map}
 use Rattle.std.proofs.Common.{rules}
 use mir.ValLaws.{to_z-Fits}
 use Rattle.std.proofs.lemmas.Int.{to_z-of_z, of_z-to_z}
-use Rattle.cv_word.specs.Words.{word_bytes, little_endian, AreBytes}
+use Rattle.cv_word.specs.Words.{word_bytes, AreBytes}
 use Rattle.x64_decode.specs.Spelling.{signed_bytes}
 use Rattle.x64_decode.specs.Reading.{number_4, number_8, signed_4, signed_at}
 
@@ -16,10 +16,6 @@ unfolding number_4
 number_again_4 n rest h =
     let e : n % 256 + 256 * (n / 256 % 256 + 256 * (n / 256 / 256 % 256 + 256 * (n / 256 / 256 / 256 % 256))) ≡ n = omega arith in
     ap (λ m. let o : Option (ℕ × List ℕ) = Some (m, rest) in o) e
-
--- eight bytes are two fours
-low_high : (n : ℕ) → n < 2 ^ 64 → n % 2 ^ 32 + 2 ^ 32 * (n / 2 ^ 32) ≡ n
-low_high n h = omega arith
 
 pub number_again_8 : (n : ℕ) (rest : List ℕ) → n < 2 ^ 64 → number_8 (word_bytes 8 n ++ rest) ≡ Some (n, rest)
 unfolding number_8

@@ -1,9 +1,9 @@
 -- Reading a spelling, whatever follows it, gives the instruction and what follows.
-use Rattle.std.proofs.Common.{◌≡◌, ℕ, zero, suc, ◌+◌, ◌*◌, ◌/◌, ◌%◌, ◌^◌, ◌<◌, ◌≤◌, Bool, true, false, ◌&&◌, cond, List, [], ◌∷◌, ◌++◌, length, Option, Some, None, refl, sym, ◌∙◌, ap, subst, arith, eqb, leb, ℤ}
+use Rattle.std.proofs.Common.{◌≡◌, ℕ, ◌+◌, ◌*◌, ◌/◌, ◌%◌, ◌<◌, Bool, true, false, ◌&&◌, cond, List, [], ◌∷◌, ◌++◌, Option, Some, None, refl, ◌∙◌, ap, arith, eqb, leb, ℤ}
 use Rattle.std.specs.Prelude.{FitsSigned}
 use Rattle.std.specs.Int.{w32}
 use Rattle.std.specs.Option.{option_map}
-use Rattle.std.proofs.lemmas.Bool.{cond-true, cond-false, eq-eqb, ne_eqb, and_from, le-leb, cases_Bool, eqb-true}
+use Rattle.std.proofs.lemmas.Bool.{cond-true, cond-false, eq-eqb, ne_eqb, and_from, le-leb}
 use Rattle.cv_word.specs.Words.{word_bytes}
 use Rattle.x64_decode.specs.declared.instr.Reg.{Reg}
 use Rattle.x64_decode.specs.declared.instr.Cond.{Cond}
@@ -19,9 +19,9 @@ use Rattle.x64_decode.specs.declared.instr.ShiftOp.TheVariants as shift
 use Rattle.x64_decode.specs.declared.instr.Instr.{Instr}
 use Rattle.x64_decode.specs.declared.instr.Instr.TheVariants.{Mov, Alu, Test, Imul, Not, Neg, Idiv, Cqo, ShiftImm, ShiftCl, Movsxd, Movzx8, Movsx8, Setcc, Cmov, MovImm32, MovImm64, MovImmS, AluImm, Load, LoadZx8, LoadSx8, LoadSx32, Store, CmpFlat, JmpR10, CallR10, Call, Jmp, Jcc, Ud2, Nop}
 use Rattle.x64_decode.specs.Spelling.{number, condition, alu_opcode, alu_extension, shift_extension, segment_prefix, rex, modrm, between, operand, access, signed_bytes, store_wide, store_opcode, spelling, HasSpelling}
-use Rattle.x64_decode.specs.Reading.{Read, gives, then_read, reg_of, cond_of, alu_of_opcode, alu_of_extension, shift_of_extension, number_4, number_8, signed_at, shift_by_number, unary_form, move_signed_form, alu_by_number, wide_form, wide_two_byte_form, set_byte_form, jump_at, call_at, narrow_form, one_byte, two_byte, registers_at, number_form, escaped, after_rex, displaced, indexed, operand_at, access_form, byte_form, escaped_access, access_at, has_no_index, is_wide, high_reg, high_rm, segment_at, comparison_at, control_at, read, instruction_at}
+use Rattle.x64_decode.specs.Reading.{gives, then_read, reg_of, cond_of, alu_of_opcode, signed_at, shift_by_number, unary_form, move_signed_form, alu_by_number, wide_form, wide_two_byte_form, set_byte_form, jump_at, call_at, narrow_form, one_byte, two_byte, registers_at, number_form, escaped, after_rex, displaced, indexed, operand_at, access_form, byte_form, escaped_access, access_at, is_wide, high_reg, high_rm, segment_at, comparison_at, control_at, read}
 use Rattle.x64_decode.proofs.Numbers.{number_again_4, number_again_8, signed_again}
-use Rattle.x64_decode.proofs.Tables.{reg_again, number_below, cond_again, condition_below, alu_again, extension_again, extension_below, shift_again, shift_below}
+use Rattle.x64_decode.proofs.Tables.{reg_again, number_below, cond_again, condition_below, extension_again, shift_again}
 
 -- ---- REX and ModRM
 

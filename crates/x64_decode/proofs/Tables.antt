@@ -1,6 +1,6 @@
 -- The tables of registers, conditions and operations, both ways.
-use Rattle.std.proofs.Common.{◌≡◌, ℕ, zero, suc, ◌+◌, ◌*◌, ◌/◌, ◌%◌, ◌^◌, ◌<◌, ◌≤◌, Bool, true, false, Option, Some, None, refl, sym, ◌∙◌, ap, subst, arith, eqb}
-use Rattle.std.proofs.lemmas.Bool.{agree_below, agree_below_at, eqb-true}
+use Rattle.std.proofs.Common.{◌≡◌, ℕ, ◌<◌, Bool, true, Option, Some, None, refl, sym, ◌∙◌, ap, arith, eqb}
+use Rattle.std.proofs.lemmas.Bool.{agree_below_at, eqb-true}
 use Rattle.x64_decode.specs.declared.instr.Reg.{Reg}
 use Rattle.x64_decode.specs.declared.instr.Reg.TheVariants as reg
 use Rattle.x64_decode.specs.declared.instr.Cond.{Cond}
@@ -82,15 +82,6 @@ condition_below cond.Ge = omega arith
 condition_below cond.Le = omega arith
 condition_below cond.G = omega arith
 
-pub alu_again : (op : AluOp) → alu_of_opcode (alu_opcode op) ≡ Some op
-unfolding alu_of_opcode
-alu_again alu.Add = refl
-alu_again alu.Or = refl
-alu_again alu.And = refl
-alu_again alu.Sub = refl
-alu_again alu.Xor = refl
-alu_again alu.Cmp = refl
-
 pub extension_again : (op : AluOp) → alu_of_extension (alu_extension op) ≡ Some op
 unfolding alu_of_extension
 extension_again alu.Add = refl
@@ -100,24 +91,11 @@ extension_again alu.Sub = refl
 extension_again alu.Xor = refl
 extension_again alu.Cmp = refl
 
-pub extension_below : (op : AluOp) → alu_extension op < 16
-extension_below alu.Add = omega arith
-extension_below alu.Or = omega arith
-extension_below alu.And = omega arith
-extension_below alu.Sub = omega arith
-extension_below alu.Xor = omega arith
-extension_below alu.Cmp = omega arith
-
 pub shift_again : (op : ShiftOp) → shift_of_extension (shift_extension op) ≡ Some op
 unfolding shift_of_extension
 shift_again shift.Shl = refl
 shift_again shift.Shr = refl
 shift_again shift.Sar = refl
-
-pub shift_below : (op : ShiftOp) → shift_extension op < 16
-shift_below shift.Shl = omega arith
-shift_below shift.Shr = omega arith
-shift_below shift.Sar = omega arith
 
 -- ---- back: what a table finds has that number
 

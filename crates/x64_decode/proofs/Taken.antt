@@ -1,21 +1,20 @@
 -- What is read is spelled by the bytes that were taken.
-use Rattle.std.proofs.Common.{◌≡◌, ℕ, zero, suc, ◌+◌, ◌*◌, ◌/◌, ◌%◌, ◌^◌, ◌<◌, ◌≤◌, Bool, true, false, ◌&&◌, cond, List, [], ◌∷◌, ◌++◌, length, Option, Some, None, refl, sym, ◌∙◌, ap, subst, arith, eqb, leb, ℤ, inl, inr}
+use Rattle.std.proofs.Common.{◌≡◌, ℕ, ◌+◌, ◌*◌, ◌/◌, ◌%◌, ◌<◌, Bool, true, false, ◌&&◌, cond, List, [], ◌∷◌, ◌++◌, Option, Some, None, refl, sym, ◌∙◌, ap, subst, arith, eqb, leb, ℤ, inl, inr}
 use Rattle.std.specs.Prelude.{FitsSigned}
 use Rattle.std.specs.Int.{w32}
 use Rattle.std.specs.Option.{option_map}
 use Rattle.std.proofs.lemmas.Bool.{cond_both, and_parts, eqb-true, eqb-false, leb-true, cases_Bool, eq-eqb}
-use Rattle.cv_word.specs.Words.{word_bytes, AreBytes}
-use Rattle.x64_decode.specs.declared.instr.Reg.{Reg}
+use Rattle.cv_word.specs.Words.{AreBytes}
 use Rattle.x64_decode.specs.declared.instr.Seg.{Seg}
 use Rattle.x64_decode.specs.declared.instr.Seg.TheVariants.{Fs, Gs}
 use Rattle.x64_decode.specs.declared.instr.Width.TheVariants.{B1, B4, B8}
 use Rattle.x64_decode.specs.declared.instr.Mem.{Mem}
 use Rattle.x64_decode.specs.declared.instr.Instr.{Instr}
 use Rattle.x64_decode.specs.declared.instr.Instr.TheVariants.{Mov, Alu, Test, Imul, Not, Neg, Idiv, Cqo, ShiftImm, ShiftCl, Movsxd, Movzx8, Movsx8, Setcc, Cmov, MovImm32, MovImm64, MovImmS, AluImm, Load, LoadZx8, LoadSx8, LoadSx32, Store, CmpFlat, JmpR10, CallR10, Call, Jmp, Jcc, Ud2, Nop}
-use Rattle.x64_decode.specs.Spelling.{number, condition, alu_opcode, alu_extension, shift_extension, segment_prefix, rex, modrm, between, operand, access, signed_bytes, store_wide, store_opcode, spelling, HasSpelling}
-use Rattle.x64_decode.specs.Reading.{Read, gives, then_read, reg_of, cond_of, alu_of_opcode, alu_of_extension, shift_of_extension, number_4, number_8, signed_at, shift_by_number, unary_form, move_signed_form, alu_by_number, wide_form, wide_two_byte_form, set_byte_form, jump_at, call_at, narrow_form, one_byte, two_byte, registers_at, number_form, escaped, after_rex, displaced, indexed, operand_at, access_form, byte_form, escaped_access, access_at, has_no_index, is_wide, high_reg, high_rm, segment_at, comparison_at, control_at, read, instruction_at}
-use Rattle.x64_decode.proofs.Numbers.{Number, NumberOf, number_taken_4, number_taken_8, Signed, SignedOf, signed_taken, tail_bytes}
-use Rattle.x64_decode.proofs.Tables.{number_reg, condition_found, condition_below, alu_found, extension_found, shift_found}
+use Rattle.x64_decode.specs.Spelling.{number, condition, alu_extension, shift_extension, segment_prefix, rex, modrm, between, operand, signed_bytes, spelling, HasSpelling}
+use Rattle.x64_decode.specs.Reading.{Read, gives, then_read, reg_of, number_4, number_8, signed_at, shift_by_number, unary_form, move_signed_form, alu_by_number, wide_form, wide_two_byte_form, set_byte_form, jump_at, call_at, narrow_form, one_byte, two_byte, registers_at, number_form, escaped, after_rex, displaced, indexed, operand_at, access_form, byte_form, escaped_access, access_at, has_no_index, is_wide, high_reg, high_rm, segment_at, comparison_at, control_at, read}
+use Rattle.x64_decode.proofs.Numbers.{NumberOf, number_taken_4, number_taken_8, Signed, SignedOf, signed_taken, tail_bytes}
+use Rattle.x64_decode.proofs.Tables.{number_reg, condition_found, alu_found, extension_found, shift_found}
 use Rattle.x64_decode.proofs.Spelled.{shift_small, extension_small}
 
 -- the bytes are the spelling of an instruction, and what was left

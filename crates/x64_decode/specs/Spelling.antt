@@ -1,6 +1,6 @@
 -- The one spelling of each instruction, in 64-bit mode: prefixes, REX, opcode, ModRM, SIB, displacement and immediate,
 -- by the names of the Intel manual's chapter on the instruction format.
-use Rattle.std.specs.Prelude.{◌≡◌, ℕ, ◌+◌, ◌*◌, ◌/◌, ◌%◌, ◌^◌, ◌<◌, ◌≤◌, Bool, true, false, List, [], ◌∷◌, ◌++◌, length, ℤ, FitsSigned, if◌then◌else◌, ◌==◌}
+use Rattle.std.specs.Prelude.{◌≡◌, ℕ, ◌+◌, ◌*◌, ◌/◌, ◌%◌, ◌^◌, ◌<◌, ◌≤◌, Bool, true, false, List, [], ◌∷◌, ◌++◌, ℤ, FitsSigned, if◌then◌else◌, ◌==◌}
 use Rattle.std.specs.Int.{w32, cast_unsigned}
 use Rattle.cv_word.specs.Words.{word_bytes}
 use Rattle.x64_decode.specs.declared.instr.Reg.{Reg}

@@ -1,4 +1,4 @@
-use Rattle.std.proofs.Common.{rules, length, ◌≡◌, sym, List, ℕ, drop, ◌<◌, ◌≤◌, ◌+◌, arith, ◌∙◌, ap, subst, refl}
+use Rattle.std.proofs.Common.{rules, length, sym, arith, ◌∙◌, ap, subst, refl}
 use Rattle.code_sweep.proofs.Begun.{word_stands, word_length, word_fits, at_return, return_item_length, return_fits, at_call, call_item_length, call_fits, at_nothing, at_other, at_plain, plain_length}
 use Rattle.code_sweep.specs.declared.item.Item.{Item}
 use Rattle.code_sweep.specs.Listing.{StandsAt, item_bytes}

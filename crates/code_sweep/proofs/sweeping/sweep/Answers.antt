@@ -1,4 +1,4 @@
-use Rattle.std.proofs.Common.{rules, arith, ◌≡◌, ◌<◌, ◌≤◌, ◌+◌, ◌-◌, length, ap, sym, ◌∙◌, List, ◌++◌, ◌∷◌, [], subst, refl}
+use Rattle.std.proofs.Common.{arith, ◌+◌, sym, List, subst, refl}
 use Rattle.code_sweep.specs.Listing.{IsChain}
 use Rattle.code_sweep.specs.declared.item.Placed.{Placed}
 use Rattle.code_sweep.proofs.Begun.{chain_more}

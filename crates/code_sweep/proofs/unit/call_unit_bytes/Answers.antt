@@ -1,4 +1,4 @@
-use Rattle.std.proofs.Common.{◌≡◌, length, rules}
+use Rattle.std.proofs.Common.{rules}
 use Rattle.code_sweep.proofs.Eight.{call_cells}
 use Rattle.code_sweep.proofs.unit.call_unit_bytes.Goals as goal
 

@@ -1,4 +1,4 @@
-use Rattle.std.proofs.Common.{arith, rules, length, ◌≡◌}
+use Rattle.std.proofs.Common.{rules}
 use Rattle.code_sweep.proofs.Begun.{call_found}
 use Rattle.code_sweep.proofs.unit.call_unit_parts.Goals as goal
 

@@ -1,4 +1,4 @@
-use Rattle.std.proofs.Common.{arith, length, subst, List, ℕ, Option, Some, None, ◌≡◌}
+use Rattle.std.proofs.Common.{arith, subst, List, ℕ, Some, None}
 use Rattle.memchr.specs.Find.{FindsNeedle}
 use Rattle.magic_words.proofs.Places.{found_behind}
 use Rattle.magic_words.proofs.occurrence.next_occurrence.Goals as goal

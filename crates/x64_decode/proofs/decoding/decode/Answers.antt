@@ -1,6 +1,6 @@
-use Rattle.std.proofs.Common.{◌≡◌, List, ℕ, length, drop, Option, Some, None, ◌-◌, sym, ◌∙◌, ap, arith}
+use Rattle.std.proofs.Common.{ℕ, length, sym, ◌∙◌, ap, arith}
 use Rattle.std.specs.Option.{option_map}
-use Rattle.x64_decode.specs.Spelling.{spelling, Spells}
+use Rattle.x64_decode.specs.Spelling.{spelling}
 use Rattle.x64_decode.specs.declared.instr.Instr.{Instr}
 use Rattle.x64_decode.specs.Reading.{instruction_at}
 use Rattle.x64_decode.proofs.Laws.{reads, not_read, seen, told, told_only}
