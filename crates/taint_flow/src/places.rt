@@ -32,7 +32,7 @@ impl<'a> Model for ItemNumbers<'a> {
 
 impl<'a> ItemNumbers<'a> {
     /// The number of the item that begins at that place of the code. `None` exactly where none does; past the code's end
-    /// none does. It looks at the items of the place's block alone.
+    /// none does. It looks at the items of the place's block, and at one behind them at most.
     pub fn at(&self, place: u64) -> Option<u32>
         ensures { result ≡ number_at self.now place }
     {
