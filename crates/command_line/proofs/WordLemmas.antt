@@ -2,8 +2,9 @@
 use Rattle.std.proofs.Common.{◌≡◌, ◌∙◌, ◌≤◌, ℕ, List, [], Option, Some, None, true, false, refl, sym, ap}
 use Rattle.std.proofs.Common.{is_some, true≢false}
 use Rattle.std.specs.Str.{bytes_eq}
+use Rattle.std.proofs.lemmas.Option.{same_Some}
 use Rattle.std.proofs.lemmas.Slice.Eq.{bytes_eq-Decides}
-use Rattle.std.specs.Prelude.{codes, option_map, slice_get, unwrap_or}
+use Rattle.std.specs.Prelude.{codes, option_map, slice_get}
 use Rattle.std.specs.Borrow.{Bor}
 use Rattle.clap.specs.Words.{App, HasMatchesOf, Text, fault_of, first_of, first_value, found_of}
 use Rattle.clap.specs.Words.{is_simple, is_simple_and_free, matches_of, rows_of}
@@ -63,21 +64,18 @@ module _ (definition : App) (words : List Text) (m : ArgMatches) (are : AreMatch
       sym (ap (option_map (λ (s : Bor Text). s.now)) none) ∙ value_read id answer is ∙ some in
       true≢false (ap (λ (o : Option Text). is_some o) (sym other))
 
-same_text : (mine yours : Text) → Some mine ≡ Some yours → mine ≡ yours
-same_text mine yours same = ap (λ (o : Option Text). unwrap_or o mine) same
-
 -- digits that are no number within the limit give STEPS none
 pub no_steps : (definition : App) (words : List Text) (digits : Text) (steps : ℕ) →
     value_of definition words (codes "STEPS") ≡ Some digits →
     ((value : ℕ) → IsNumber digits value → value ≤ 1000000000 → ⊥) → HasSteps definition words steps → ⊥
 no_steps definition words digits steps has none said =
-    none steps (same-number said.digits digits steps (same_text _ _ (sym said.has ∙ has)) said.number) said.most
+    none steps (same-number said.digits digits steps (same_Some _ _ (sym said.has ∙ has)) said.number) said.most
 
 -- ---- words that begin with a command's word say no other command
 
 other_word : (mine yours : Text) → bytes_eq mine yours ≡ false → Some mine ≡ Some yours → ⊥
 other_word mine yours differ same =
-    true≢false (sym ((bytes_eq-Decides mine yours).1 (same_text mine yours same)) ∙ differ)
+    true≢false (sym ((bytes_eq-Decides mine yours).1 (same_Some mine yours same)) ∙ differ)
 
 pub only_verify : (words : List Text) → slice_get words 0 ≡ Some verify.top.name →
     ((name : Text) → IsCommand words (Verify name) → ⊥) → IsNoCommand words
