@@ -1,5 +1,5 @@
 -- A join: one label takes in another, and the item is queued.
-use Rattle.std.proofs.Common.{subst, ◌≡◌, ℕ, ◌+◌, ◌-◌, ◌<◌, ◌≤◌, ◌≢◌, Bool, true, false, List, [], ◌∷◌, ◌++◌, length, set, get_or, sym, ◌∙◌, ap, arith, Option, Some, inl, inr, ◌⊎◌}
+use Rattle.std.proofs.Common.{subst, ◌≡◌, ℕ, ◌+◌, ◌-◌, ◌<◌, ◌≤◌, ◌≢◌, Bool, true, false, List, [], ◌∷◌, ◌++◌, length, set, get_or, refl, sym, ◌∙◌, ap, arith, Option, Some, inl, inr, ◌⊎◌}
 use Rattle.std.specs.List.{sum_by}
 use Rattle.std.specs.Int.RustNames.{bit_or}
 use Rattle.std.proofs.lemmas.Option.{same_Some}
@@ -232,3 +232,12 @@ queued_read queued j b t h e is = sym (get_or_read queued j b h e false) ∙ is
 -- a state is whole at the count of its own labels
 pub whole_own : (count : ℕ) (s : State) → IsWhole count s → IsWhole (length s.labels) s
 whole_own count s w = subst (λ (n : ℕ). IsWhole n s) (sym w.labels) w
+
+pub rises_same : (s : State) → Rises s s
+rises_same s = record {
+  labels = refl;
+  whole = λ count w. w;
+  higher = λ i k one. one;
+  told = λ i q. (q, refl);
+  work = omega arith;
+}

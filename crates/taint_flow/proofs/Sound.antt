@@ -1,12 +1,12 @@
 -- The search for the least labelling: how it starts, what one item hands on, and what is kept.
-use Rattle.std.proofs.Common.{subst, ◌≡◌, ℕ, suc, ◌+◌, ◌-◌, ◌*◌, ◌<◌, ◌≤◌, Bool, true, false, cond, eqb, List, [], ◌∷◌, ◌++◌, length, set, get_or, replicate, refl, sym, ◌∙◌, ap, arith, Option, Some, None, inl, inr, ◌⊎◌}
+use Rattle.std.proofs.Common.{subst, ◌≡◌, ℕ, zero, suc, ◌+◌, ◌-◌, ◌*◌, ◌<◌, ◌≤◌, Bool, true, false, cond, eqb, List, [], ◌∷◌, ◌++◌, length, set, get_or, replicate, refl, sym, ◌∙◌, ap, arith, Option, Some, None, inl, inr, ◌⊎◌}
 use Rattle.std.specs.Prelude.{All, unwrap_or}
 use Rattle.std.specs.Option.{option_map}
 use Rattle.std.specs.List.{slice_get, sum_by}
 use Rattle.std.proofs.lemmas.Option.{same_Some, none-some, slice_get_within, cond_some}
 use Rattle.std.proofs.lemmas.Bool.{cases_eq, cases_lt, true≢false, cond-true, false_from_ne_true}
-use Rattle.std.proofs.lemmas.List.{get_or-set_same, get_or-set_other, get_or-replicate, get_or_past, length-replicate, length-set, length_push, get_or_push, get_or_append_left}
-use Rattle.std.proofs.lemmas.List.Elements.{All-push}
+use Rattle.std.proofs.lemmas.List.{get_or-set_same, get_or-set_other, get_or-replicate, get_or_past, length-replicate, length-set, length_push}
+use Rattle.std.proofs.lemmas.List.Elements.{All-nil, All-push}
 use Rattle.std.proofs.lemmas.List.Folds.{sum_by-replicate}
 use Rattle.cv_word.specs.MemoryMap.{code_base}
 use Rattle.code_sweep.specs.declared.item.Item.{Item}
@@ -17,9 +17,9 @@ use Rattle.taint_flow.specs.Flow.{Labelling, MeetsFlow, Leads, left_behind, fall
 use Rattle.taint_flow.specs.Bits.{label_of, labelling_of, public_bits}
 use Rattle.taint_flow.specs.declared.label.Label.{Label as LabelBits}
 use Rattle.taint_flow.specs.Places.{NextStands, NumbersItems, goes_on}
-use Rattle.taint_flow.specs.Worklist.{State, label_at, is_queued, IsWhole, IsBelow, Rises, TakesIn, StaysBelow, all_private, private_names, room_above, work_left, HandsOn, HasWords, StaysLeast, IsFresh, IsSound, behind_word, word_label}
+use Rattle.taint_flow.specs.Worklist.{State, waiting, label_at, is_queued, IsWhole, IsBelow, Rises, TakesIn, StaysBelow, all_private, private_names, room_above, work_left, HandsOn, HasWords, StaysLeast, IsFresh, IsSound, behind_word, word_label}
 use Rattle.std.proofs.lemmas.Nat.Bits.{bit_at-zero}
-use Rattle.taint_flow.proofs.Stacks.{one_if, one_most, times_on, flags_set, pushed_same, pushed_other, flag_cleared}
+use Rattle.taint_flow.proofs.Stacks.{one_if, one_most, times_on, flags_set, pushed_same, pushed_other, flag_cleared, TakesOff, taken_off}
 use Rattle.taint_flow.proofs.Joins.{read_label}
 use Rattle.taint_flow.proofs.Names.{left_behind_within, all_meets, no_names}
 use Rattle.taint_flow.proofs.Monotone.{left_behind_up}
@@ -116,53 +116,40 @@ handed_least items i p out s m t next target number h a b any meets below =
     (λ j e. out_below items i p out s next target number h any meets below j (p, h.here, inl (next_leads items i p out s next target number h j e)))
     below)
 
--- the top of the stack taken off, and its flag cleared
+-- a number taken off the stack, and its flag cleared
 abbrev pub popped : State → ℕ → List ℕ → ℕ → State
 popped s i rest room = record { labels = s.labels; queued = set s.queued i false; stack = rest; room = room }
 
-pub top_inside : (count : ℕ) (s : State) (i : ℕ) (rest : List ℕ) → IsWhole count s → s.stack ≡ rest ++ i ∷ [] → i < count
-top_inside count s i rest w e =
-    let long : length s.stack ≡ length rest + 1 = ap length e ∙ length_push rest i in
-    let top : get_or s.stack (length rest) 0 ≡ i =
-    ap (λ (xs : List ℕ). get_or xs (length rest) 0) e ∙ get_or_push rest i 0 (length rest) refl in
-    let small : get_or s.stack (length rest) 0 < count = w.inside (length rest) 0 (omega arith) in
-    omega arith
+top_inside : (count : ℕ) (s : State) (i : ℕ) (rest : List ℕ) → IsWhole count s → TakesOff s.stack i rest → i < count
+top_inside count s i rest w e = (e.small count w.inside).0
 
-rest_inside : (count : ℕ) (s : State) (i : ℕ) (rest : List ℕ) → IsWhole count s → s.stack ≡ rest ++ i ∷ [] → (k d : ℕ) → k < length rest → get_or rest k d < count
-rest_inside count s i rest w e k d h =
-    let long : length s.stack ≡ length rest + 1 = ap length e ∙ length_push rest i in
-    let at : get_or s.stack k d ≡ get_or rest k d =
-    ap (λ (xs : List ℕ). get_or xs k d) e ∙ get_or_append_left rest (i ∷ []) d k h in
-    let small : get_or s.stack k d < count = w.inside k d (omega arith) in
-    omega arith
-
--- the top is queued, and stands nowhere below
-top_once : (count : ℕ) (s : State) (i : ℕ) (rest : List ℕ) → IsWhole count s → s.stack ≡ rest ++ i ∷ [] →
+-- it was queued, and stands nowhere else
+top_once : (count : ℕ) (s : State) (i : ℕ) (rest : List ℕ) → IsWhole count s → TakesOff s.stack i rest →
     (times_on rest i ≡ 0) × (one_if (is_queued s i) ≡ 1)
 top_once count s i rest w e =
-    let more : times_on s.stack i ≡ times_on rest i + 1 = ap (λ (xs : List ℕ). times_on xs i) e ∙ pushed_same rest i i refl in
+    let more : times_on s.stack i ≡ times_on rest i + 1 = e.same in
     let once : times_on s.stack i ≡ one_if (is_queued s i) = w.once i in
     let most : one_if (is_queued s i) ≤ 1 = one_most (is_queued s i) in
     (omega arith, omega arith)
 
-once_popped : (count : ℕ) (s : State) (i k : ℕ) (rest : List ℕ) → IsWhole count s → s.stack ≡ rest ++ i ∷ [] → i < length s.queued →
+once_popped : (count : ℕ) (s : State) (i k : ℕ) (rest : List ℕ) → IsWhole count s → TakesOff s.stack i rest → i < length s.queued →
     (k ≡ i) ⊎ (k ≡ i → ⊥) → times_on rest k ≡ one_if (get_or (set s.queued i false) k false)
 once_popped count s i k rest w e small (inl same) =
     ap (λ (n : ℕ). times_on rest n) same ∙ (top_once count s i rest w e).0 ∙
     sym (ap one_if (ap (λ (n : ℕ). get_or (set s.queued i false) n false) same ∙ get_or-set_same s.queued i false false small))
 once_popped count s i k rest w e small (inr n) =
-    sym (ap (λ (xs : List ℕ). times_on xs k) e ∙ pushed_other rest i k n) ∙ w.once k ∙
+    sym (e.other k n) ∙ w.once k ∙
     sym (ap one_if (get_or-set_other s.queued i k false false n))
 
-stacked_popped : (count : ℕ) (s : State) (i : ℕ) (rest : List ℕ) → IsWhole count s → s.stack ≡ rest ++ i ∷ [] → i < length s.queued →
+stacked_popped : (count : ℕ) (s : State) (i : ℕ) (rest : List ℕ) → IsWhole count s → TakesOff s.stack i rest → i < length s.queued →
     length rest ≡ flags_set (set s.queued i false)
 stacked_popped count s i rest w e small =
-    let long : length s.stack ≡ length rest + 1 = ap length e ∙ length_push rest i in
+    let long : length s.stack ≡ length rest + 1 = e.long in
     let was : length s.stack ≡ flags_set s.queued = w.stacked in
     let less : flags_set (set s.queued i false) + 1 ≡ flags_set s.queued = flag_cleared s.queued i small (top_once count s i rest w e).1 in
     omega arith
 
-pub whole_popped : (count : ℕ) (s : State) (i : ℕ) (rest : List ℕ) (room : ℕ) → IsWhole count s → s.stack ≡ rest ++ i ∷ [] → room ≡ s.room →
+pub whole_popped : (count : ℕ) (s : State) (i : ℕ) (rest : List ℕ) (room : ℕ) → IsWhole count s → TakesOff s.stack i rest → room ≡ s.room →
     IsWhole count (popped s i rest room)
 whole_popped count s i rest room w e same =
     let small : i < length s.queued = let top = top_inside count s i rest w e in let len = w.queued in omega arith in
@@ -170,7 +157,7 @@ whole_popped count s i rest room w e same =
       labels = w.labels;
       queued = length-set s.queued i false ∙ w.queued;
       room = (let had : count ≤ s.room = w.room in omega arith);
-      inside = rest_inside count s i rest w e;
+      inside = (e.small count w.inside).1;
       once = λ k. once_popped count s i k rest w e small (cases_eq k i);
       stacked = stacked_popped count s i rest w e small;
     }
@@ -178,35 +165,35 @@ whole_popped count s i rest room w e same =
 kept_flag : (queued : List Bool) (i k : ℕ) → (k ≡ i → ⊥) → get_or (set queued i false) k false ≡ false → get_or queued k false ≡ false
 kept_flag queued i k n h = sym (get_or-set_other queued i k false false n) ∙ h
 
-done_at : (items : List Placed) (s t : State) (i k : ℕ) (rest : List ℕ) (room : ℕ) → IsSound items s → Rises (popped s i rest room) t →
+done_at : (items : List Placed) (count : ℕ) (s t : State) (i k : ℕ) (rest : List ℕ) (room : ℕ) → IsSound items count s → Rises (popped s i rest room) t →
     HandsOn items i (popped s i rest room) t → is_queued t k ≡ false → (k ≡ i) ⊎ (k ≡ i → ⊥) → HandsOn items k t t
-done_at items s t i k rest room sound r h q (inl e) j p here lead =
+done_at items count s t i k rest room sound r h q (inl e) j p here lead =
     along _ _ _ (ap (λ (l : Label). left_behind p.item l) ((r.told k q).1 ∙ ap (λ (n : ℕ). label_at s n) e))
     (h j p (ap (λ (n : ℕ). slice_get items n) (sym e) ∙ here) (subst (λ (n : ℕ). Leads items n j) e lead))
-done_at items s t i k rest room sound r h q (inr n) j p here lead =
+done_at items count s t i k rest room sound r h q (inr n) j p here lead =
     along _ _ _ (ap (λ (l : Label). left_behind p.item l) (r.told k q).1)
     (λ name one. r.higher j name (sound.done k (kept_flag s.queued i k n (r.told k q).0) j p here lead name one))
 
-pub sound_after : (items : List Placed) (s t : State) (i : ℕ) (rest : List ℕ) (room : ℕ) → IsSound items s → s.stack ≡ rest ++ i ∷ [] →
+pub sound_after : (items : List Placed) (count : ℕ) (s t : State) (i : ℕ) (rest : List ℕ) (room : ℕ) → IsSound items count s → TakesOff s.stack i rest →
     room ≡ s.room → Rises (popped s i rest room) t → HandsOn items i (popped s i rest room) t →
-    StaysLeast items (popped s i rest room) t → IsSound items t
-sound_after items s t i rest room sound e same r h least = record {
+    StaysLeast items (popped s i rest room) t → IsSound items count t
+sound_after items count s t i rest room sound e same r h least = record {
   whole = r.whole (length items) (whole_popped (length items) s i rest room sound.whole e same);
   words = λ k p l small here is name one. r.higher (suc k) name (sound.words k p l small here is name one);
-  done = λ k q. done_at items s t i k rest room sound r h q (cases_eq k i);
+  done = λ k q. done_at items count s t i k rest room sound r h q (cases_eq k i);
   below = λ any meets. least any meets (sound.below any meets);
 }
 
-pub work_after : (s t : State) (i : ℕ) (rest : List ℕ) (room : ℕ) → s.stack ≡ rest ++ i ∷ [] → Rises (popped s i rest room) t →
+pub work_after : (s t : State) (i : ℕ) (rest : List ℕ) (room : ℕ) → TakesOff s.stack i rest → Rises (popped s i rest room) t →
     work_left t < work_left s
 work_after s t i rest room e r =
-    let long : length s.stack ≡ length rest + 1 = ap length e ∙ length_push rest i in
+    let long : length s.stack ≡ length rest + 1 = e.long in
     let work : work_left t ≤ work_left (popped s i rest room) = r.work in
     omega arith
 
 -- no label has a name above the flags, nor what an item leaves
-pub sound_within : (items : List Placed) (s : State) (i : ℕ) → IsSound items s → IsAtMost (label_at s i) all_private
-sound_within items s i sound = sound.below (λ (n : ℕ). all_private) (all_meets items) i
+pub sound_within : (items : List Placed) (count : ℕ) (s : State) (i : ℕ) → IsSound items count s → IsAtMost (label_at s i) all_private
+sound_within items count s i sound = sound.below (λ (n : ℕ). all_private) (all_meets items) i
 
 pub out_within : (item : Item) (out : ℕ) (x : LabelBits) (s : State) (i : ℕ) → i < length s.labels → x ≡ get_or s.labels i x →
     label_of out ≡ left_behind item (label_of x.bits) → IsAtMost (label_at s i) all_private → IsAtMost (label_of out) all_private
@@ -238,7 +225,7 @@ there_more count i k stack h s a b (inl e) =
     omega arith
 there_more count i k stack h s a b (inr n) = pushed_other stack (count - 1 - i) k n ∙ s.there k (omega arith) b
 
-pub highest_more : (count i : ℕ) (stack : List ℕ) → i < count → Highest count i stack → Highest count (i + 1) (stack ++ (count - 1 - i) ∷ [])
+highest_more : (count i : ℕ) (stack : List ℕ) → i < count → Highest count i stack → Highest count (i + 1) (stack ++ (count - 1 - i) ∷ [])
 highest_more count i stack h s = record {
   inside = All-push (λ k. k < count) stack (count - 1 - i) s.inside (omega arith);
   there = λ k a b. there_more count i k stack h s a b (cases_eq k (count - 1 - i));
@@ -248,6 +235,44 @@ highest_more count i stack h s = record {
       let was : length stack ≡ i = s.long in
       omega arith);
 }
+
+-- the numbers that wait are the highest
+waiting_highest : (count k : ℕ) → k ≤ count → Highest count k (waiting (count - k) k)
+unfolding waiting
+waiting_highest count zero h = record {
+  inside = All-nil (λ k. k < count);
+  there = λ k a b. absurd (omega (arith, a, b));
+  absent = λ k a. refl;
+  past = λ k a. refl;
+  long = refl;
+}
+waiting_highest count (suc k) h =
+    let low : count - suc k + 1 ≡ count - k = omega (arith, h) in
+    let next : count - suc k ≡ count - 1 - k = omega (arith, h) in
+    let one : k + 1 ≡ suc k = omega arith in
+    let more = highest_more count k (waiting (count - k) k) (omega (arith, h)) (waiting_highest count k (omega (arith, h))) in
+    subst (λ (n : ℕ). Highest count n (waiting (count - suc k) (suc k))) one
+    (subst (λ (n : ℕ). Highest count (k + 1) (waiting n k ++ (count - suc k) ∷ [])) (sym low)
+    (subst (λ (n : ℕ). Highest count (k + 1) (waiting (count - k) k ++ n ∷ [])) (sym next) more))
+
+pub waiting_all : (count : ℕ) → Highest count count (waiting 0 count)
+waiting_all count =
+    let none : count - count ≡ 0 = omega arith in
+    subst (λ (n : ℕ). Highest count count (waiting n count)) none (waiting_highest count count (omega arith))
+
+-- and none waits past the last
+pub none_waits : (count i : ℕ) → count ≤ i → waiting i (count - i) ≡ []
+unfolding waiting
+none_waits count i h = ap (λ (n : ℕ). waiting i n) (let none : count - i ≡ 0 = omega (arith, h) in none)
+
+-- the first of those that wait is taken off
+pub first_taken_off : (count i : ℕ) (above : List ℕ) → i < count →
+    TakesOff (waiting i (count - i) ++ above) i (waiting (i + 1) (count - (i + 1)) ++ above)
+unfolding waiting
+first_taken_off count i above h =
+    let n : suc (count - (i + 1)) ≡ count - i = omega (arith, h) in
+    subst (λ (n : ℕ). TakesOff (waiting i n ++ above) i (waiting (i + 1) (count - (i + 1)) ++ above)) n
+    (taken_off (waiting (i + 1) (count - (i + 1))) above i)
 
 fresh_once : (count k : ℕ) (stack : List ℕ) → Highest count count stack → (k < count) ⊎ (count ≤ k) →
     times_on stack k ≡ one_if (get_or (replicate count true) k false)
@@ -280,13 +305,13 @@ fresh_at count room stack h had = record {
       omega arith);
 }
 
-pub fresh_from : (count i room : ℕ) (labels : List LabelBits) (queued : List Bool) (stack : List ℕ) → i ≡ count → count ≤ room →
-    labels ≡ replicate count public_bits → queued ≡ replicate count true → Highest count i stack →
+pub fresh_from : (count room : ℕ) (labels : List LabelBits) (queued : List Bool) (stack : List ℕ) → count ≤ room →
+    labels ≡ replicate count public_bits → queued ≡ replicate count true → Highest count count stack →
     IsFresh count (record { labels = labels; queued = queued; stack = stack; room = room })
-fresh_from count i room labels queued stack e had a b h =
+fresh_from count room labels queued stack had a b h =
     subst (λ (ls : List LabelBits). IsFresh count (record { labels = ls; queued = queued; stack = stack; room = room })) (sym a)
     (subst (λ (qs : List Bool). IsFresh count (record { labels = replicate count public_bits; queued = qs; stack = stack; room = room })) (sym b)
-    (fresh_at count room stack (subst (λ (n : ℕ). Highest count n stack) e h) had))
+    (fresh_at count room stack h had))
 
 -- what the code made of one item
 pub hands_from : (items : List Placed) (i : ℕ) (p : Placed) (x : LabelBits) (out : ℕ) (s : State) (next target : Option ℕ) (number : ℕ → Option ℕ) →
@@ -338,7 +363,7 @@ word_at items i k p q l m t before r takes here small there is (inl e) =
 word_at items i k p q l m t before r takes here small there is (inr n) =
     λ name one. r.higher (suc k) name (before k q l (omega arith) there is name one)
 
-pub words_more : (items : List Placed) (i : ℕ) (p : Placed) (m t : State) → HasWords items i m → Rises m t →
+words_more : (items : List Placed) (i : ℕ) (p : Placed) (m t : State) → HasWords items i m → Rises m t →
     TakesIn (behind_word p.item i) (word_label p.item) t → slice_get items i ≡ Some p → HasWords items (i + 1) t
 words_more items i p m t before r takes here k q l small there is =
     word_at items i k p q l m t before r takes here small there is (cases_eq k i)
@@ -355,7 +380,7 @@ word_below : (items : List Placed) (i : ℕ) (p : Placed) (any : Labelling) → 
     (j : ℕ) → behind_word p.item i ≡ Some j → IsAtMost (word_label p.item) (any j)
 word_below items i p any meets here j e = said_below (said_behind p.item) i j any (λ l said. meets.words i p l here said) e
 
-pub least_more : (items : List Placed) (i : ℕ) (p : Placed) (s m t : State) → StaysLeast items s m →
+least_more : (items : List Placed) (i : ℕ) (p : Placed) (s m t : State) → StaysLeast items s m →
     StaysBelow (behind_word p.item i) (word_label p.item) m t → slice_get items i ≡ Some p → StaysLeast items s t
 least_more items i p s m t least stays here any meets below =
     stays any (word_below items i p any meets here) (least any meets below)
@@ -364,17 +389,27 @@ least_more items i p s m t least stays here any meets below =
 queued_apart : (b : Bool) → b ≡ true → b ≡ false → ⊥
 queued_apart b t f = true≢false (sym t ∙ f)
 
-pub sound_from_fresh : (items : List Placed) (s t : State) → IsFresh (length items) s → Rises s t → HasWords items (length items) t →
-    StaysLeast items s t → IsSound items t
-sound_from_fresh items s t fresh r words least = record {
-  whole = r.whole (length items) fresh.whole;
-  words = words;
-  done = λ k q j p here lead.
-      absurd (queued_apart (is_queued s k) (fresh.all_queued k (slice_get_within items k p here)) (r.told k q).0);
-  below = λ any meets. least any meets (λ k name one. absurd (true≢false (sym one ∙ fresh.public k name)));
+pub sound_from_fresh : (items : List Placed) (s : State) → IsFresh (length items) s → IsSound items 0 s
+sound_from_fresh items s fresh = record {
+  whole = fresh.whole;
+  words = λ i p l small. absurd (omega (arith, small));
+  done = λ k q j p here lead. absurd (queued_apart (is_queued s k) (fresh.all_queued k (slice_get_within items k p here)) q);
+  below = λ any meets k name one. absurd (true≢false (sym one ∙ fresh.public k name));
 }
 
-unqueued : (items : List Placed) (s : State) → IsSound items s → s.stack ≡ [] → (i : ℕ) → is_queued s i ≡ false
+-- after labels have risen
+sound_risen : (items : List Placed) (count more : ℕ) (s t : State) → IsSound items count s → Rises s t → HasWords items more t →
+    StaysLeast items s t → IsSound items more t
+sound_risen items count more s t sound r words least = record {
+  whole = r.whole (length items) sound.whole;
+  words = words;
+  done = λ k q j p here lead.
+      along _ _ _ (ap (λ (l : Label). left_behind p.item l) (r.told k q).1)
+      (λ name one. r.higher j name (sound.done k (r.told k q).0 j p here lead name one));
+  below = λ any meets. least any meets (sound.below any meets);
+}
+
+unqueued : (items : List Placed) (s : State) → IsSound items (length items) s → s.stack ≡ [] → (i : ℕ) → is_queued s i ≡ false
 unqueued items s sound e i =
     false_from_ne_true (is_queued s i) (λ q.
     let once : times_on s.stack i ≡ one_if (is_queued s i) = sound.whole.once i in
@@ -382,7 +417,7 @@ unqueued items s sound e i =
     let here : one_if (is_queued s i) ≡ 1 = ap one_if q in
     omega arith)
 
-pub meets_at_end : (items : List Placed) (s : State) → IsSound items s → s.stack ≡ [] → MeetsFlow items (label_at s)
+pub meets_at_end : (items : List Placed) (s : State) → IsSound items (length items) s → s.stack ≡ [] → MeetsFlow items (label_at s)
 meets_at_end items s sound e = record {
   words = λ i p l here is. sound.words i p l (slice_get_within items i p here) here is;
   leads = λ i j p here lead. sound.done i (unqueued items s sound e i) j p here lead;
@@ -398,12 +433,20 @@ stays_word : (to : Option ℕ) (out : Label) (item : Item) (i : ℕ) (s t : Stat
 stays_word to out item i s t a b stays any small below =
     stays any (λ j e. along out (word_label item) (any j) b (small j (sym a ∙ e))) below
 
-pub words_joined : (items : List Placed) (i : ℕ) (p : Placed) (to : Option ℕ) (out : Label) (m t : State) → to ≡ behind_word p.item i →
+words_joined : (items : List Placed) (i : ℕ) (p : Placed) (to : Option ℕ) (out : Label) (m t : State) → to ≡ behind_word p.item i →
     out ≡ word_label p.item → slice_get items i ≡ Some p → HasWords items i m → Rises m t → TakesIn to out t → HasWords items (i + 1) t
 words_joined items i p to out m t a b here before r takes =
     words_more items i p m t before r (takes_word to out p.item i t a b takes) here
 
-pub least_joined : (items : List Placed) (i : ℕ) (p : Placed) (to : Option ℕ) (out : Label) (s m t : State) → to ≡ behind_word p.item i →
+least_joined : (items : List Placed) (i : ℕ) (p : Placed) (to : Option ℕ) (out : Label) (s m t : State) → to ≡ behind_word p.item i →
     out ≡ word_label p.item → slice_get items i ≡ Some p → StaysLeast items s m → StaysBelow to out m t → StaysLeast items s t
 least_joined items i p to out s m t a b here least stays =
     least_more items i p s m t least (stays_word to out p.item i m t a b stays) here
+
+-- after a word has told what it says
+pub sound_told : (items : List Placed) (i : ℕ) (p : Placed) (to : Option ℕ) (out : Label) (s t : State) → to ≡ behind_word p.item i →
+    out ≡ word_label p.item → slice_get items i ≡ Some p → Rises s t → TakesIn to out t → StaysBelow to out s t → IsSound items i s →
+    IsSound items (i + 1) t
+sound_told items i p to out s t a b here rises takes stays sound =
+    sound_risen items i (i + 1) s t sound rises (words_joined items i p to out s t a b here sound.words rises takes)
+    (least_joined items i p to out s s t a b here (λ any meets low. low) stays)

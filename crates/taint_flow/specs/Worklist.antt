@@ -1,6 +1,6 @@
 -- The state of the labelling while it is found: a label for each item, whether an item is queued, the stack of the queued, and
 -- how many numbers the stack has room for.
-use Rattle.std.specs.Prelude.{◌≡◌, ℕ, zero, suc, ◌+◌, ◌-◌, ◌*◌, ◌<◌, ◌≤◌, Bool, true, false, ◌==◌, nat_le, if◌then◌else◌, List, length, Option, Some, slice_get, slice_index_or, unwrap_or, count_by, vec_capacity}
+use Rattle.std.specs.Prelude.{◌≡◌, ℕ, zero, suc, ◌+◌, ◌-◌, ◌*◌, ◌<◌, ◌≤◌, Bool, true, false, ◌==◌, nat_le, if◌then◌else◌, List, [], ◌∷◌, ◌++◌, length, Option, Some, slice_get, slice_index_or, unwrap_or, count_by, vec_capacity}
 use Rattle.std.specs.Option.{option_map}
 use Rattle.std.specs.List.{sum_by}
 use Rattle.code_sweep.specs.declared.item.Item.{Item}
@@ -17,8 +17,17 @@ pub record State : Type 0 where
   pub stack : List ℕ
   pub room : ℕ
 
+-- the state where further numbers count as on the stack, below those that are
+abbrev pub state_over : List ℕ → Worklist → State
+state_over below w = record { labels = w.labels.items; queued = w.queued.items; stack = below ++ w.stack.items; room = vec_capacity w.stack }
+
 abbrev pub state_of : Worklist → State
-state_of w = record { labels = w.labels.items; queued = w.queued.items; stack = w.stack.items; room = vec_capacity w.stack }
+state_of w = state_over [] w
+
+-- so many numbers from i on, the lowest on top: the items that wait for their first turn
+unfoldable pub waiting : ℕ → ℕ → List ℕ
+waiting i zero = []
+waiting i (suc n) = waiting (i + 1) n ++ i ∷ []
 
 -- what may be private before an item
 abbrev pub label_at : State → Labelling
@@ -100,9 +109,10 @@ pub record IsFresh (count : ℕ) (s : State) : Type 0 where
   pub all_queued : (i : ℕ) → i < count → is_queued s i ≡ true
   pub work : work_left s ≡ 18 * count
 
--- what the search for the least labelling keeps: no label is too high, and what is not queued has handed on
-pub record IsSound (items : List Placed) (s : State) : Type 0 where
+-- what the search for the least labelling keeps: no label is too high, the first so many words have told what they say, and what
+-- is not queued has handed on
+pub record IsSound (items : List Placed) (count : ℕ) (s : State) : Type 0 where
   pub whole : IsWhole (length items) s
-  pub words : HasWords items (length items) s
+  pub words : HasWords items count s
   pub done : (i : ℕ) → is_queued s i ≡ false → HandsOn items i s s
   pub below : (any : Labelling) → MeetsFlow items any → IsBelow s any

@@ -9,7 +9,7 @@ ghost use Rattle.taint_flow.specs.Label.{IsAtMost, entry_label};
 ghost use Rattle.taint_flow.specs.Flow.{Labelling, MeetsFlow, falls_through, left_behind, jump_target, address_after};
 ghost use Rattle.taint_flow.specs.Bits.{label_of, labelling_of};
 ghost use Rattle.taint_flow.specs.Places.{StandInOrder, NextStands, NumbersItems, number_at};
-ghost use Rattle.taint_flow.specs.Worklist.{state_of, label_at, all_private, work_left, IsWhole, Rises, HandsOn, StaysLeast, HasWords, IsFresh, IsSound, behind_word, word_label};
+ghost use Rattle.taint_flow.specs.Worklist.{state_of, state_over, waiting, label_at, all_private, work_left, IsWhole, Rises, HandsOn, StaysLeast, IsFresh, IsSound, behind_word, word_label};
 
 use crate::label::{Label, entry_label, left_by, return_label};
 use crate::places::{ItemNumbers, item_numbers};
@@ -70,24 +70,39 @@ pub fn label_code<L: Ledger>(
     ensures room_first { OnErr result (steps.new ≡ steps.old) }
 {
     let numbers = item_numbers(alloc, listing)?;
-    let items = listing.items.as_slice();
+    label_items(alloc, listing.items.as_slice(), &numbers, steps)
+}
+
+/// The same as [`label_code`], of items whose numbers are at hand.
+pub fn label_items<L: Ledger>(
+    alloc: Global,
+    items: &[Placed],
+    numbers: &ItemNumbers<'_>,
+    steps: &mut Steps<L>,
+) -> Result<Labels, NoMemory>
+    requires limit { length items.now < 2 ^ 32 }
+    requires numbers { NumbersItems items.now (number_at numbers.now) }
+    requires next { NextStands items.now }
+    ensures len { IfOk result (λ labels. length labels ≡ length items.now) }
+    ensures meets { IfOk result (λ labels. MeetsFlow items.now (labelling_of labels)) }
+    ensures least { IfOk result (λ labels. (any : Labelling) → MeetsFlow items.now any → (i : ℕ) → IsAtMost (labelling_of labels i) (any i)) }
+    ensures bound { steps.new ≤ steps.old + 18 * length items.now }
+    ensures room_first { OnErr result (steps.new ≡ steps.old) }
+{
     let mut w = queue_all(alloc, items.len())?;
-    enter_words(&mut w, items);
-    settle(&mut w, items, &numbers, steps);
+    take_turns(&mut w, items, numbers, steps);
+    settle(&mut w, items, numbers, steps);
     Ok(Labels { labels: w.labels })
 }
 
-/// Nothing is private, and every item is queued, the first on top.
+/// Nothing is private, and every item is queued and waits for its first turn.
 fn queue_all(alloc: Global, count: usize) -> Result<Worklist, NoMemory>
     requires { count < 2 ^ 32 }
-    ensures { IfOk result (λ w. IsFresh count (state_of w)) }
+    ensures { IfOk result (λ w. IsFresh count (state_over (waiting 0 count) w)) }
 {
     let labels = vec![in alloc; Label { bits: 0 }; count]?;
     let queued = vec![in alloc; true; count]?;
-    let mut stack = Vec::with_capacity(alloc, count)?;
-    for i in 0..count {
-        stack.push_reserved((count - 1 - i) as u32);
-    }
+    let stack = Vec::with_capacity(alloc, count)?;
     Ok(Worklist {
         labels,
         queued,
@@ -95,17 +110,26 @@ fn queue_all(alloc: Global, count: usize) -> Result<Worklist, NoMemory>
     })
 }
 
-/// Joins what each word says into the label behind it.
-fn enter_words(w: &mut Worklist, items: &[Placed])
-    requires whole { IsWhole (length items.now) (state_of w.old) }
+/// Gives each item its first turn: a word joins what it says into the label behind it, and then the item hands on what it
+/// leaves.
+fn take_turns<L: Ledger>(
+    w: &mut Worklist,
+    items: &[Placed],
+    numbers: &ItemNumbers<'_>,
+    steps: &mut Steps<L>,
+)
+    requires fresh { IsFresh (length items.now) (state_over (waiting 0 (length items.now)) w.old) }
     requires limit { length items.now < 2 ^ 32 }
+    requires numbers { NumbersItems items.now (number_at numbers.now) }
     requires next { NextStands items.now }
-    ensures rises { Rises (state_of w.old) (state_of w.new) }
-    ensures words { HasWords items.now (length items.now) (state_of w.new) }
-    ensures least { StaysLeast items.now (state_of w.old) (state_of w.new) }
+    ensures sound { IsSound items.now (length items.now) (state_of w.new) }
+    ensures bound { steps.new + work_left (state_of w.new) ≤ steps.old + 18 * length items.now }
 {
-    for (i, p) in items.iter().enumerate() {
-        join(w, behind_word(&p.item, i), word_label(&p.item));
+    for i in 0..items.len() {
+        let item = &items[i].item;
+        join(w, behind_word(item, i), word_label(item));
+        w.queued[i] = false;
+        hand_on(w, items, numbers, i, steps);
     }
 }
 
@@ -139,11 +163,11 @@ fn settle<L: Ledger>(
     numbers: &ItemNumbers<'_>,
     steps: &mut Steps<L>,
 )
-    requires sound { IsSound items.now (state_of w.old) }
+    requires sound { IsSound items.now (length items.now) (state_of w.old) }
     requires limit { length items.now < 2 ^ 32 }
     requires numbers { NumbersItems items.now (number_at numbers.now) }
     requires next { NextStands items.now }
-    ensures sound { IsSound items.now (state_of w.new) }
+    ensures sound { IsSound items.now (length items.now) (state_of w.new) }
     ensures empty { w.new.stack.items ≡ [] }
     ensures bound { steps.new ≤ steps.old + work_left (state_of w.old) }
 {
@@ -162,21 +186,21 @@ fn hand_on<L: Ledger>(
     i: usize,
     steps: &mut Steps<L>,
 )
-    requires whole { IsWhole (length items.now) (state_of w.old) }
+    requires whole { (below : List ℕ) × IsWhole (length items.now) (state_over below w.old) }
     requires inside { i < length items.now }
     requires names { IsAtMost (label_at (state_of w.old) i) all_private }
     requires limit { length items.now < 2 ^ 32 }
     requires numbers { NumbersItems items.now (number_at numbers.now) }
     requires next { NextStands items.now }
-    ensures rises { Rises (state_of w.old) (state_of w.new) }
+    ensures rises { (below : List ℕ) → Rises (state_over below w.old) (state_over below w.new) }
     ensures handed { HandsOn items.now i (state_of w.old) (state_of w.new) }
     ensures least { StaysLeast items.now (state_of w.old) (state_of w.new) }
     ensures step { steps.new ≡ steps.old + 1 }
 {
-    let p = items[i];
+    let p = &items[i];
     let out = left_behind(&p.item, w.labels[i], steps);
     join(w, next_number(&p.item, i), out);
-    join(w, target_number(numbers, &p), out);
+    join(w, target_number(numbers, p), out);
 }
 
 /// What may be private behind an item. Each use of an item's row is here, and is a step.

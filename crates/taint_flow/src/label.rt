@@ -85,6 +85,7 @@ impl Label {
 }
 
 /// What may be private behind an instruction, from what may be before it: a row for each instruction.
+#[inline(always)]
 #[tactic(auto, unfolding(crate::specs::Label::left_by))]
 pub fn left_by(i: &Instr, l: Label) -> Label
     ensures { label_of result.bits ≡ left_by i.now (label_of l.bits) }

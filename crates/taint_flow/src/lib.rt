@@ -13,7 +13,7 @@ mod places;
 mod worklist;
 
 pub use calls::{call_target, callee, is_call};
-pub use flow::{Labels, jump_target, label_code};
+pub use flow::{Labels, jump_target, label_code, label_items};
 pub use label::{
     Label, branches_on_private, divides_private, entry_label, has_private_address,
     leaves_rsp_private, left_by, passes_private, return_label, returns_private, stores_private,

@@ -665,6 +665,7 @@ fn access(seg: Seg, wide: bool, hx: u8, hy: u8, bytes: &[u8]) -> Option<(Instr, 
 }
 
 /// Behind the prefix of a segment.
+#[inline(always)]
 #[tactic(auto, unfolding(crate::specs::Reading::segment_at))]
 fn behind_segment(seg: Seg, bytes: &[u8]) -> Option<(Instr, &[u8])>
     ensures { MatchOption result (segment_at seg bytes.now ≡ None) (λ r. segment_at seg bytes.now ≡ Some (r.0, r.1.now)) }
@@ -718,6 +719,7 @@ fn control(bytes: &[u8]) -> Option<(Instr, &[u8])>
 }
 
 /// The instruction that the bytes begin with, and the bytes behind it.
+#[inline(always)]
 #[tactic(auto, unfolding(crate::specs::Reading::read))]
 fn instruction(bytes: &[u8]) -> Option<(Instr, &[u8])>
     ensures { MatchOption result (read bytes.now ≡ None) (λ r. read bytes.now ≡ Some (r.0, r.1.now)) }
@@ -773,6 +775,7 @@ fn bytes_from(code: &[u8], at: usize) -> &[u8]
 
 /// The instruction that stands at a place of the code, and how many bytes it has. None exactly where no row of the
 /// table fits there. Any place is fine; past the end there is no instruction.
+#[inline(always)]
 pub fn decode(code: &[u8], at: usize) -> Option<(Instr, u8)>
     // What the reading of the bytes there gives.
     ensures exact { result ≡ option_map (λ i. (i, length (spelling i))) (instruction_at (drop at code.now)) }

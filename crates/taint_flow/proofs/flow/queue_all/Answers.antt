@@ -1,15 +1,13 @@
-use Rattle.std.proofs.Common.{arith, rules, sym, subst, List, ℕ, ◌+◌, vec_capacity}
-use Rattle.taint_flow.proofs.Sound.{Highest, highest_more, fresh_from}
+use Rattle.std.proofs.Common.{arith, rules, sym, subst, List, ℕ, ◌≡◌, ◌++◌, ◌∙◌, ap, vec_capacity}
+use Rattle.std.proofs.lemmas.List.{append-nil}
+use Rattle.taint_flow.specs.Worklist.{waiting}
+use Rattle.taint_flow.proofs.Sound.{Highest, waiting_all, fresh_from}
 use Rattle.taint_flow.proofs.flow.queue_all.Goals as goal
-
-pub loop-i-preserved : goal.loop-i-preserved
-loop-i-preserved c = record {
-  highest = subst (λ (stack : List ℕ). Highest c.args.count (c.loop-i.i + 1) stack) (sym c.push_reserved.ensures.items)
-      (highest_more c.args.count c.loop-i.i c.loop-i.stack.items (omega arith) c.loop-i.invariant.highest);
-  room = omega (arith, c.push_reserved.ensures.capacity, c.loop-i.invariant.room);
-}
 
 pub returns : goal.returns
 returns c =
-    fresh_from c.args.count c.loop-i.i (vec_capacity c.loop-i.stack) c.in_ok-labels.labels.items c.in_ok-queued.queued.items c.loop-i.stack.items
-    (omega arith) c.loop-i.invariant.room (search rules) (search rules) c.loop-i.invariant.highest
+    let all : waiting 0 c.args.count ++ c.in_ok-stack.stack.items ≡ waiting 0 c.args.count =
+    ap (λ (xs : List ℕ). waiting 0 c.args.count ++ xs) c.in_ok-stack.ensures.items ∙ append-nil (waiting 0 c.args.count) in
+    fresh_from c.args.count (vec_capacity c.in_ok-stack.stack) c.in_ok-labels.labels.items c.in_ok-queued.queued.items
+    (waiting 0 c.args.count ++ c.in_ok-stack.stack.items) (omega (arith, c.in_ok-stack.ensures.capacity)) (search rules) (search rules)
+    (subst (λ (xs : List ℕ). Highest c.args.count c.args.count xs) (sym all) (waiting_all c.args.count))
