@@ -1,13 +1,12 @@
 -- What a listing's chain says of its items: their order, and where words stand.
-use Rattle.std.proofs.Common.{◌≡◌, ℕ, zero, suc, ◌+◌, ◌<◌, ◌≤◌, Bool, true, false, List, [], ◌∷◌, ◌++◌, length, take, Option, Some, None, refl, sym, ◌∙◌, ap, subst, arith, inl, inr, slice_get, get_or, not, cond, add-one}
+use Rattle.std.proofs.Common.{◌≡◌, ℕ, zero, suc, ◌+◌, ◌<◌, Bool, true, false, List, [], ◌∷◌, length, take, Option, Some, None, refl, sym, ◌∙◌, ap, subst, arith, slice_get, get_or, not, cond, add-one}
 use Rattle.std.proofs.lemmas.Option.{none-some, same_Some, slice_get-get_or}
-use Rattle.std.proofs.lemmas.Bool.{true≢false, cases_lt}
-use Rattle.std.proofs.lemmas.List.{get_or_append_left, get_or_push}
+use Rattle.std.proofs.lemmas.Bool.{true≢false}
 use Rattle.code_sweep.specs.declared.item.Item.{Item}
 use Rattle.code_sweep.specs.declared.item.Item.TheVariants.{Call, Ret, Plain, ReturnUnit, CallUnit}
 use Rattle.code_sweep.specs.declared.item.Placed.{Placed}
 use Rattle.code_sweep.specs.Listing.{item_bytes, IsChain, StandsAt}
-use Rattle.conf_verify.specs.Rules.{is_word, is_call_word, call_words, other_items, procedure_of, last_bits}
+use Rattle.conf_verify.specs.Rules.{is_word, is_call_word, call_words, other_items, last_bits}
 use Rattle.conf_verify.specs.Search.{BadResult, IsBadResult}
 use Rattle.taint_flow.specs.Calls.{call_bits}
 use Rattle.taint_flow.proofs.Chain.{bytes_some}
@@ -63,17 +62,6 @@ counted_call items i before step d inside e f =
     let h = call_words_more items i (get_or items i d) (slice_get-get_or items i d inside) in
     rw (add-one, h, e, f) refl
 
--- one more number in a list of the items' procedures
-pub numbers_push : (items : List Placed) (numbers : List ℕ) (i count : ℕ) → length numbers ≡ i → count ≡ procedure_of items i →
-    ((j : ℕ) → j < i → get_or numbers j 0 ≡ procedure_of items j) → (j : ℕ) → j < i + 1 → get_or (numbers ++ count ∷ []) j 0 ≡ procedure_of items j
-numbers_push items numbers i count len is each j small =
-    elim (cases_lt j i) [
-      | inl below ↦ get_or_append_left numbers (count ∷ []) 0 j (omega arith) ∙ each j below
-      | inr above ↦
-          let here : j ≡ i = omega arith in
-          get_or_push numbers count 0 j (omega arith) ∙ is ∙ ap (λ k. procedure_of items k) (sym here)
-    ]
-
 turned : (b : Bool) → ◌≡◌ {A = ℕ} (cond (not b) 1 0) (cond b 0 1)
 turned true = refl
 turned false = refl
@@ -84,11 +72,6 @@ counted_others items i before step d inside e f =
     let h = other_items_more items i (get_or items i d) (slice_get-get_or items i d inside) in
     let g = turned (is_word (get_or items i d).item) in
     rw (add-one, h, e, f, g) refl
-
--- so many items have at most so many call words
-cond_one : (b : Bool) → cond b 1 0 ≤ 1
-cond_one true = omega arith
-cond_one false = omega arith
 
 -- ---- the bits of the last call word
 

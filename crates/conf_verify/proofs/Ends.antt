@@ -17,12 +17,12 @@ use Rattle.conf_verify.specs.declared.verdict.VerifyError.{VerifyError}
 use Rattle.conf_verify.specs.declared.verdict.VerifyError.TheVariants.{NoMemory, Refused}
 use Rattle.conf_verify.specs.Rules.{BreaksShape, BreaksPrefix, FollowsCallWord, rule_number}
 use Rattle.conf_verify.specs.Search.{BadOccurrence, BadLabel}
-use Rattle.conf_verify.specs.Verdict.{IsImage, HasListing, IsAcceptedImage}
+use Rattle.conf_verify.specs.Verdict.{IsImage, HasListing}
 use Rattle.conf_verify.specs.Answer.{IsRefusal}
 use Rattle.conf_verify.specs.Steps.{IsCodeVerdict, IsCodeRefusal, HoldsBelow}
 use Rattle.conf_verify.proofs.Told.{told_code}
 use Rattle.conf_verify.proofs.Steps.{told_prefix, no_prefix, told_entry}
-use Rattle.conf_verify.proofs.Flows.{told_flow, accepts}
+use Rattle.conf_verify.proofs.Flows.{told_flow}
 
 pub refusal : (image : Image) (error : VerifyError) (rule : Rule) (at : ℕ) → error ≡ Refused rule at → IsCodeVerdict image rule at → IsCodeRefusal image error
 refusal image error rule at is v = subst (λ (e : VerifyError). IsCodeRefusal image e) (sym is) v
@@ -56,23 +56,14 @@ entry_at image items xs entries same same' listing one not below =
     let e = subst (λ (l : List ℕ). slice_get image.entries 0 ≡ Some (slice_index l 0)) (sym same') (slice_get-get_or image.entries 0 0 (omega (arith, one))) in
     told_entry image items (slice_index entries 0) listing one e (subst (λ (l : List Placed). FollowsCallWord l (slice_index entries 0) → ⊥) same not) below
 
-pub flow_at : (image : Image) (items xs : List Placed) (labels : List LabelBits) (i : ℕ) (d : Placed) (rule : Rule) → xs ≡ items → HasListing image items → MeetsFlow items (labelling_of labels) →
+pub flow_at : (image : Image) (items : List Placed) (labels : List LabelBits) (i : ℕ) (d : Placed) (rule : Rule) → HasListing image items → MeetsFlow items (labelling_of labels) →
     ((any : Labelling) → MeetsFlow items any → (k : ℕ) → IsAtMost (labelling_of labels k) (any k)) → ((other : Rule) (place : ℕ) → BreaksShape other image items place → ⊥) →
-    (i < length xs) × BadLabel xs (labelling_of labels) rule i × ((other : Rule) (j : ℕ) → j < i → BadLabel xs (labelling_of labels) other j → ⊥)
-    × ((other : Rule) → rule_number other < rule_number rule → BadLabel xs (labelling_of labels) other i → ⊥) →
-    IsCodeVerdict image rule (code_base + (get_or xs i d).at)
-flow_at image items xs labels i d rule same listing meets least shape found =
-    told_flow image xs (labelling_of labels) (subst (λ (l : List Placed). HasListing image l) (sym same) listing)
-    (subst (λ (l : List Placed). MeetsFlow l (labelling_of labels)) (sym same) meets)
-    (subst (λ (l : List Placed). (any : Labelling) → MeetsFlow l any → (k : ℕ) → IsAtMost (labelling_of labels k) (any k)) (sym same) least)
-    (subst (λ (l : List Placed). (other : Rule) (place : ℕ) → BreaksShape other image l place → ⊥) (sym same) shape)
-    i (get_or xs i d) rule (slice_get-get_or xs i d found.0) (record { bad = found.1; first = found.2; lowest = found.3 })
-
-pub flow_none : (image : Image) (items xs : List Placed) (labels : List LabelBits) → xs ≡ items → HasListing image items → MeetsFlow items (labelling_of labels) →
-    ((other : Rule) (place : ℕ) → BreaksShape other image items place → ⊥) → ((rule : Rule) (i : ℕ) → i < length xs → BadLabel xs (labelling_of labels) rule i → ⊥) → IsAcceptedImage image
-flow_none image items xs labels same listing meets shape fine =
-    accepts image items (labelling_of labels) listing meets shape
-    (subst (λ (l : List Placed). (rule : Rule) (i : ℕ) → i < length l → BadLabel l (labelling_of labels) rule i → ⊥) same fine)
+    (i < length items) × BadLabel items (labelling_of labels) rule i × ((other : Rule) (j : ℕ) → j < i → BadLabel items (labelling_of labels) other j → ⊥)
+    × ((other : Rule) → rule_number other < rule_number rule → BadLabel items (labelling_of labels) other i → ⊥) →
+    IsCodeVerdict image rule (code_base + (get_or items i d).at)
+flow_at image items labels i d rule listing meets least shape found =
+    told_flow image items (labelling_of labels) listing meets least shape
+    i (get_or items i d) rule (slice_get-get_or items i d found.0) (record { bad = found.1; first = found.2; lowest = found.3 })
 
 pub few_items : (image : Image) (items : List Placed) → IsGood image → HasListing image items → length items ≤ 4194304
 few_items image items good listing =

@@ -2,6 +2,8 @@ mod Order
 mod Firsts
 mod One
 mod Chains
+mod Procedures
+mod Quiet
 mod Shapes
 mod LabelRules
 mod Told

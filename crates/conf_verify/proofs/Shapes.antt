@@ -5,8 +5,9 @@ use Rattle.std.proofs.lemmas.Option.{none-some, same_Some, slice_get_within, get
 use Rattle.cv_word.specs.MemoryMap.{code_base}
 use Rattle.code_sweep.specs.declared.item.Placed.{Placed}
 use Rattle.taint_flow.specs.Places.{NumbersItems}
-use Rattle.conf_verify.specs.Rules.{is_word, is_call_word, procedure_of, IsGoodTarget, FollowsCallWord}
-use Rattle.conf_verify.specs.Search.{BeginsAt, AreProcedures, HasWord}
+use Rattle.conf_verify.specs.Rules.{is_word, is_call_word, IsGoodTarget, FollowsCallWord}
+use Rattle.conf_verify.specs.Search.{BeginsAt, IsProcedure, HasWord}
+use Rattle.conf_verify.proofs.Procedures.{same_procedure, not_below, not_above}
 
 -- no number at the place: no item begins there
 pub no_number : (items : List Placed) (number : ℕ → Option ℕ) (place : ℕ) → NumbersItems items number → (let o : Option ℕ = None in o) ≡ number place →
@@ -41,14 +42,9 @@ pub target_none : (items : List Placed) (number : ℕ → Option ℕ) (i target 
     IsGoodTarget items i target → ⊥
 target_none items number i target n e h = no_number items number (target - code_base) n e h.0 h.1 h.2 (let at = h.3 in omega arith)
 
-pub target_past : (items : List Placed) (number : ℕ → Option ℕ) (i target j : ℕ) → NumbersItems items number → (let o : Option ℕ = Some j in o) ≡ number (target - code_base) →
-    length items ≤ j → IsGoodTarget items i target → ⊥
-target_past items number i target j n e past h = past_item items number (target - code_base) j n e past
-
-pub target_yes : (items : List Placed) (number : ℕ → Option ℕ) (procedures : List ℕ) (i target j : ℕ) (d : Placed) → NumbersItems items number → AreProcedures items procedures →
-    code_base ≤ target → (let o : Option ℕ = Some j in o) ≡ number (target - code_base) → i < length items → not (is_word (get_or items j d).item) ≡ true →
-    get_or procedures j 0 ≡ get_or procedures i 0 → IsGoodTarget items i target
-target_yes items number procedures i target j d n p low e inside word same =
+pub target_yes : (items : List Placed) (number : ℕ → Option ℕ) (start end i target j : ℕ) (d : Placed) → NumbersItems items number → IsProcedure items start end → start ≤ i → i < end →
+    code_base ≤ target → (let o : Option ℕ = Some j in o) ≡ number (target - code_base) → start ≤ j → j < end → not (is_word (get_or items j d).item) ≡ true → IsGoodTarget items i target
+target_yes items number start end i target j d n p from to low e above below word =
     let f = n.only (target - code_base) j (sym e) in
     let here = get_or_from_slice_get items j f.0 d f.1 in
     let within : j < length items = slice_get_within items j f.0 f.1 in (
@@ -57,17 +53,20 @@ target_yes items number procedures i target j d n p low e inside word same =
       slice_get-get_or items j d within,
       (let at : (get_or items j d).at ≡ target - code_base = ap (λ (x : Placed). x.at) here ∙ f.2 in omega arith),
       not-true (is_word (get_or items j d).item) word,
-      sym (p.each j within) ∙ same ∙ p.each i inside,
+      same_procedure items start end i j p from to above below,
     )
 
-pub target_no : (items : List Placed) (number : ℕ → Option ℕ) (procedures : List ℕ) (i target j : ℕ) → NumbersItems items number → AreProcedures items procedures →
-    (let o : Option ℕ = Some j in o) ≡ number (target - code_base) → i < length items → (get_or procedures j 0 ≡ get_or procedures i 0 → ⊥) →
-    IsGoodTarget items i target → ⊥
-target_no items number procedures i target j n p e inside other h =
+pub target_below : (items : List Placed) (number : ℕ → Option ℕ) (start end i target j : ℕ) → NumbersItems items number → IsProcedure items start end → start ≤ i → i < end →
+    (let o : Option ℕ = Some j in o) ≡ number (target - code_base) → j < start → IsGoodTarget items i target → ⊥
+target_below items number start end i target j n p from to e below h =
     let same : h.0 ≡ j = this_number items number (target - code_base) j n e h.0 h.1 h.2 (let at = h.3 in omega arith) in
-    let within : h.0 < length items = slice_get_within items h.0 h.1 h.2 in
-    let there : j < length items = omega arith in
-    other (p.each j there ∙ ap (λ k. procedure_of items k) (sym same) ∙ h.5 ∙ sym (p.each i inside))
+    not_below items start end i h.0 p from to (omega arith) h.5
+
+pub target_above : (items : List Placed) (number : ℕ → Option ℕ) (start end i target j : ℕ) → NumbersItems items number → IsProcedure items start end → i < end →
+    (let o : Option ℕ = Some j in o) ≡ number (target - code_base) → end ≤ j → IsGoodTarget items i target → ⊥
+target_above items number start end i target j n p to e above h =
+    let same : h.0 ≡ j = this_number items number (target - code_base) j n e h.0 h.1 h.2 (let at = h.3 in omega arith) in
+    not_above items start end i h.0 p to (omega arith) (slice_get_within items h.0 h.1 h.2) h.5
 
 pub target_word : (items : List Placed) (number : ℕ → Option ℕ) (i target j : ℕ) (d : Placed) → NumbersItems items number →
     (let o : Option ℕ = Some j in o) ≡ number (target - code_base) → not (is_word (get_or items j d).item) ≡ false → IsGoodTarget items i target → ⊥

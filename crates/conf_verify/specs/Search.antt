@@ -1,5 +1,5 @@
 -- The first of so many items at which something is bad, by its number.
-use Rattle.std.specs.Prelude.{◌≡◌, ◌≢◌, ◌<◌, ℕ, ◌+◌, Bool, true, false, ◌⊎◌, List, length, Option, Some, None, MatchOption, slice_get, slice_index}
+use Rattle.std.specs.Prelude.{◌≡◌, ◌≢◌, ◌<◌, ◌≤◌, ℕ, ◌+◌, Bool, true, false, ◌⊎◌, List, length, Option, Some, None, MatchOption, slice_get, slice_index}
 use Rattle.std.specs.Int.{bit_at}
 use Rattle.code_sweep.specs.declared.item.Item.{Item}
 use Rattle.code_sweep.specs.declared.item.Item.TheVariants.{Ret, ReturnUnit}
@@ -8,7 +8,7 @@ use Rattle.taint_flow.specs.Flow.{jump_target, Labelling}
 use Rattle.taint_flow.specs.Calls.{call_target, callee, is_call}
 use Rattle.conf_verify.specs.declared.rule.Rule.{Rule}
 use Rattle.conf_verify.specs.declared.rule.Rule.TheVariants.{V3, V5, V6, V7, V8}
-use Rattle.conf_verify.specs.Rules.{is_word, is_call_word, may_end, IsLast, HasReturnWord, fits_result, FollowsCall, IsGoodTarget, procedure_of, procedure_bits, item_breaks, rule_number}
+use Rattle.conf_verify.specs.Rules.{is_word, is_call_word, may_end, IsLast, HasReturnWord, fits_result, FollowsCall, IsGoodTarget, procedure_bits, item_breaks, rule_number}
 
 -- the answer is the first number below a bound that is bad, or None where none is
 abbrev pub IsFirstBad : (ℕ → Type 0) → ℕ → Option ℕ → Type 0
@@ -48,6 +48,14 @@ abbrev pub BadResult : List Placed → ℕ → Type 0
 BadResult items i =
     (p : Placed) × (bit bits : ℕ) × (slice_get items i ≡ Some p) × (p.item ≡ ReturnUnit bit) × (procedure_bits items i ≡ Some bits) × (bit ≢ bit_at bits 4)
 
+-- the item is no word, neither calls nor jumps, and is no return unit: V5 to V8 don't speak of it
+pub record IsQuiet (p : Placed) : Type 0 where
+  pub word : is_word p.item ≡ false
+  pub call : is_call p.item ≡ false
+  pub jump : jump_target p ≡ None
+  pub target : call_target p ≡ None
+  pub unit : (bit : ℕ) → p.item ≡ ReturnUnit bit → ⊥
+
 -- the rules on shape that speak of single items, and what makes an item break one
 abbrev pub is_item_rule : Rule → Bool
 is_item_rule V3 = true
@@ -74,10 +82,24 @@ abbrev pub ret_bit : Item → Option ℕ
 ret_bit (Ret bit) = Some bit
 ret_bit _ = None
 
--- the numbers are those of the items' procedures
-pub record AreProcedures (items : List Placed) (numbers : List ℕ) : Type 0 where
-  pub len : length numbers ≡ length items
-  pub each : (i : ℕ) → i < length items → slice_index numbers i ≡ procedure_of items i
+-- a procedure may begin or end at a number: it is that of the first item or of a call word, or no item is left
+abbrev pub IsBorder : List Placed → ℕ → Type 0
+IsBorder items n = (n ≡ 0) ⊎ ((n ≡ length items) ⊎ ((q : Placed) × (slice_get items n ≡ Some q) × (is_call_word q.item ≡ true)))
+
+-- items start to end - 1 are one procedure: none behind the first is a call word, and at either end is a border
+pub record IsProcedure (items : List Placed) (start end : ℕ) : Type 0 where
+  pub some : start < end
+  pub within : end ≤ length items
+  pub front : IsBorder items start
+  pub inner : (j : ℕ) (q : Placed) → start < j → j < end → slice_get items j ≡ Some q → is_call_word q.item ≡ false
+  pub behind : IsBorder items end
+
+-- the items below number i were gone through, the last of them in this procedure: it goes on, or ends here
+pub record IsReached (items : List Placed) (start end i : ℕ) : Type 0 where
+  pub from : start ≤ i
+  pub to : i ≤ end
+  pub goes_on : i < end → IsProcedure items start end
+  pub border : IsBorder items end
 
 -- a word whose prefix stands at the place
 abbrev pub HasWord : List Placed → ℕ → Type 0

@@ -5,10 +5,11 @@ ghost use Rattle.std.specs.Option.{option_or};
 ghost use Rattle.taint_flow.specs.Places.{NumbersItems, StandApart, number_at};
 ghost use Rattle.taint_flow.specs.Calls.{AreEight, call_bits, callee};
 ghost use Rattle.conf_verify.specs.Rules.{FollowsCall, HasReturnWord, fits_result};
-ghost use Rattle.conf_verify.specs.Search.{BadCall, BadResult, BadReturn, IsFirstBad, IsBadResult, ret_bit};
+ghost use Rattle.conf_verify.specs.Search.{BadCall, BadResult, BadReturn, IsBadResult, IsQuiet, ret_bit};
 
 use code_sweep::{Item, Placed};
 use taint_flow::{ItemNumbers, call_target, callee, is_call};
+use x64_decode::Instr;
 
 /// The bit of a return word.
 fn ret_bit(item: &Item) -> Option<u8>
@@ -39,7 +40,7 @@ fn is_followed(items: &[Placed], i: usize, called: Option<u8>) -> bool
     if i + 1 == items.len() {
         return false;
     }
-    let q = items[i + 1];
+    let q = &items[i + 1];
     match ret_bit(&q.item) {
         Some(bit) => fits_result(called, bit),
         None => false,
@@ -55,8 +56,21 @@ fn follows_call(items: &[Placed], i: usize) -> bool
     if i == 0 {
         return false;
     }
-    let q = items[i - 1];
+    let q = &items[i - 1];
     is_call(&q.item)
+}
+
+/// Whether an item is an instruction that neither calls nor jumps. V5 to V8 don't speak of it.
+pub fn is_quiet(p: &Placed) -> bool
+    ensures { IsTrue result → IsQuiet p.now }
+{
+    match p.item {
+        Item::Plain(Instr::Call { rel: _ }) => false,
+        Item::Plain(Instr::Jmp { rel: _ }) => false,
+        Item::Plain(Instr::Jcc { cc: _, rel: _ }) => false,
+        Item::Plain(_) => true,
+        _ => false,
+    }
 }
 
 /// Whether item `i` is a call behind which no return word stands that fits, or a return word that follows no call.
@@ -68,9 +82,9 @@ pub fn is_bad_return(items: &[Placed], numbers: &ItemNumbers<'_>, i: usize) -> b
     ensures yes { IsTrue result → BadReturn items.now i }
     ensures no { result ≡ false → BadReturn items.now i → ⊥ }
 {
-    let p = items[i];
+    let p = &items[i];
     if is_call(&p.item) {
-        return !is_followed(items, i, callee(items, numbers, &p));
+        return !is_followed(items, i, callee(items, numbers, p));
     }
     match ret_bit(&p.item) {
         Some(_) => !follows_call(items, i),
@@ -87,11 +101,11 @@ pub fn is_bad_call(items: &[Placed], numbers: &ItemNumbers<'_>, i: usize) -> boo
     ensures yes { IsTrue result → BadCall items.now i }
     ensures no { result ≡ false → BadCall items.now i → ⊥ }
 {
-    let p = items[i];
-    if call_target(&p).is_none() {
+    let p = &items[i];
+    if call_target(p).is_none() {
         return false;
     }
-    callee(items, numbers, &p).is_none()
+    callee(items, numbers, p).is_none()
 }
 
 /// The bits of the procedure from an item on, from those before it.

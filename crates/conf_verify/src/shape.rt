@@ -1,16 +1,22 @@
 //! The rules on the shape of a listing: how procedures end, where jumps go, where the prefix stands.
 
-ghost use Rattle.std.specs.Prelude.{◌≡◌, ◌<◌, ◌+◌, ◌≤◌, ◌^◌, ℕ, IsTrue, true, false, length, slice_get, slice_index, Some, IfSome, IfOk, if◌then◌else◌};
+ghost use Rattle.std.specs.Prelude.{◌≡◌, ◌<◌, ◌+◌, ◌≤◌, ℕ, IsTrue, true, false, length, slice_get, slice_index, Some, IfSome, if◌then◌else◌};
 ghost use Rattle.code_sweep.specs.declared.item.Placed.{Placed};
 ghost use Rattle.taint_flow.specs.Places.{NumbersItems, number_at};
-ghost use Rattle.conf_verify.specs.Rules.{is_word, is_call_word, may_end, IsGoodTarget, IsLast, FollowsCallWord};
-ghost use Rattle.conf_verify.specs.Search.{AreProcedures, BeginsAt, IsFirstBad, BadEnd, BadJump, HasWord, BadOccurrence};
+ghost use Rattle.conf_verify.specs.Rules.{is_word, is_call_word, may_end, IsGoodTarget, FollowsCallWord};
+ghost use Rattle.conf_verify.specs.Search.{BeginsAt, IsBorder, IsFirstBad, IsProcedure, BadEnd, BadJump, HasWord, BadOccurrence};
 
 use code_sweep::{Item, Placed};
-use cv_word::{CODE_BASE, NoMemory};
-use std::alloc::Global;
+use cv_word::CODE_BASE;
 use taint_flow::{ItemNumbers, jump_target};
 use x64_decode::Instr;
+
+/// The items of one procedure: from number `start` up to, not including, number `end`.
+#[derive(Clone, Copy)]
+pub struct Procedure {
+    pub start: usize,
+    pub end: usize,
+}
 
 /// Whether the item is a word.
 pub fn is_word(item: &Item) -> bool
@@ -53,30 +59,33 @@ fn may_end(item: &Item) -> bool
     }
 }
 
-/// Whether the item is the last of its procedure.
-fn is_last(items: &[Placed], i: usize) -> bool
-    requires { i < length items.now }
-    ensures yes { IsTrue result → IsLast items.now i }
-    ensures no { result ≡ false → IsLast items.now i → ⊥ }
+/// Where the procedure that begins with item `start` ends: the number of the next call word, or how many items there are.
+pub fn procedure_end(items: &[Placed], start: usize) -> usize
+    requires inside { start < length items.now }
+    requires border { IsBorder items.now start }
+    ensures { IsProcedure items.now start result }
 {
-    if i + 1 == items.len() {
-        return true;
+    for j in start + 1..items.len() {
+        if is_call_word(&items[j].item) {
+            return j;
+        }
     }
-    let next = items[i + 1];
-    is_call_word(&next.item)
+    items.len()
 }
 
-/// Whether the first item is no call word, or the last of a procedure may not end it.
-pub fn is_bad_end(items: &[Placed], i: usize) -> bool
-    requires { i < length items.now }
+/// Whether item `i` is the first and no call word, or the last of its procedure and may not end it.
+pub fn is_bad_end(items: &[Placed], procedure: Procedure, i: usize) -> bool
+    requires procedure { IsProcedure items.now procedure.start procedure.end }
+    requires from { procedure.start ≤ i }
+    requires to { i < procedure.end }
     ensures yes { IsTrue result → BadEnd items.now i }
     ensures no { result ≡ false → BadEnd items.now i → ⊥ }
 {
-    let p = items[i];
+    let p = &items[i];
     if i == 0 && !is_call_word(&p.item) {
         return true;
     }
-    !may_end(&p.item) && is_last(items, i)
+    i + 1 == procedure.end && !may_end(&p.item)
 }
 
 /// The item that begins at a place of the code.
@@ -95,32 +104,18 @@ fn item_at_place(items: &[Placed], numbers: &ItemNumbers<'_>, place: u64) -> Opt
     Some(items[j])
 }
 
-/// The number of each item's procedure: how many call words there are up to it.
-pub fn procedure_numbers(alloc: Global, items: &[Placed]) -> Result<Vec<u32>, NoMemory>
-    requires { length items.now < 2 ^ 32 }
-    ensures { IfOk result (λ numbers. AreProcedures items.now numbers.items) }
-{
-    let mut numbers = Vec::with_capacity(alloc, items.len())?;
-    let mut count = 0;
-    for i in 0..items.len() {
-        let p = items[i];
-        count += one_where(is_call_word(&p.item));
-        numbers.push(count)?;
-    }
-    Ok(numbers)
-}
-
-/// Whether an item of item `i`'s procedure that is no word stands at a flat address.
+/// Whether an item of a procedure that is no word stands at a flat address. Item `i` is one of the procedure.
 fn is_good_target(
     items: &[Placed],
     numbers: &ItemNumbers<'_>,
-    procedures: &[u32],
+    procedure: Procedure,
     i: usize,
     target: u64,
 ) -> bool
     requires numbers { NumbersItems items.now (number_at numbers.now) }
-    requires procedures { AreProcedures items.now procedures.now }
-    requires inside { i < length items.now }
+    requires procedure { IsProcedure items.now procedure.start procedure.end }
+    requires from { procedure.start ≤ i }
+    requires to { i < procedure.end }
     ensures yes { IsTrue result → IsGoodTarget items.now i target }
     ensures no { result ≡ false → IsGoodTarget items.now i target → ⊥ }
 {
@@ -131,31 +126,34 @@ fn is_good_target(
         return false;
     };
     let j = j as usize;
-    if j >= items.len() {
+    if j < procedure.start {
         return false;
     }
-    let q = items[j];
-    !is_word(&q.item) && procedures[j] == procedures[i]
+    if j >= procedure.end {
+        return false;
+    }
+    !is_word(&items[j].item)
 }
 
 /// Whether item `i` is a jump whose target is no item of its procedure, or a word.
 pub fn is_bad_jump(
     items: &[Placed],
     numbers: &ItemNumbers<'_>,
-    procedures: &[u32],
+    procedure: Procedure,
     i: usize,
 ) -> bool
     requires numbers { NumbersItems items.now (number_at numbers.now) }
-    requires procedures { AreProcedures items.now procedures.now }
-    requires inside { i < length items.now }
+    requires procedure { IsProcedure items.now procedure.start procedure.end }
+    requires from { procedure.start ≤ i }
+    requires to { i < procedure.end }
     ensures yes { IsTrue result → BadJump items.now i }
     ensures no { result ≡ false → BadJump items.now i → ⊥ }
 {
-    let p = items[i];
-    let Some(target) = jump_target(&p) else {
+    let p = &items[i];
+    let Some(target) = jump_target(p) else {
         return false;
     };
-    !is_good_target(items, numbers, procedures, i, target)
+    !is_good_target(items, numbers, procedure, i, target)
 }
 
 /// Whether a word's prefix stands at a place.

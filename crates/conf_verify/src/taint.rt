@@ -1,43 +1,44 @@
 //! The rules on labels.
 
-ghost use Rattle.std.specs.Prelude.{◌≡◌, ◌<◌, ◌≤◌, ◌+◌, ℕ, IsTrue, true, false, length, slice_get, Some, MatchOption, IfOk};
+ghost use Rattle.std.specs.Prelude.{◌≡◌, ◌<◌, ◌≤◌, ◌+◌, ◌^◌, ℕ, IsTrue, true, false, length, slice_get, Some, MatchOption, IfOk};
 ghost use Rattle.taint_flow.specs.Label.{IsAtMost};
 ghost use Rattle.taint_flow.specs.Flow.{Labelling, MeetsFlow};
 ghost use Rattle.taint_flow.specs.Bits.{label_of, labelling_of};
 ghost use Rattle.taint_flow.specs.Calls.{AreEight};
-ghost use Rattle.taint_flow.specs.Places.{NumbersItems, StandApart, StandInOrder, NextStands, number_at};
+ghost use Rattle.taint_flow.specs.Places.{NumbersItems, StandApart, NextStands, number_at};
 ghost use Rattle.conf_verify.specs.declared.rule.Rule.{Rule};
 ghost use Rattle.conf_verify.specs.Rules.{item_breaks, rule_number};
 ghost use Rattle.conf_verify.specs.Search.{BadLabel, IsFirstBroken};
 
 use crate::rule::Rule;
-use code_sweep::{Item, Listing, Placed};
+use code_sweep::{Item, Placed};
 use cv_word::{NoMemory, Steps};
 use std::alloc::Global;
 use std::sync::ledger::{Blank, Ledger};
 use taint_flow::{
     ItemNumbers, Label, Labels, branches_on_private, callee, divides_private, has_private_address,
-    label_code, leaves_rsp_private, passes_private, returns_private, stores_private,
+    label_items, leaves_rsp_private, passes_private, returns_private, stores_private,
 };
 
 /// The least labels that meet the flow rules. Nobody reads how many steps that took, so any new ledger serves.
 pub fn least_labels<L: Ledger>(
     alloc: Global,
-    listing: &Listing<'_>,
+    items: &[Placed],
+    numbers: &ItemNumbers<'_>,
     blank: Blank,
 ) -> Result<Labels, NoMemory>
     requires name { blank.name ≡ L.name }
     requires parts { blank.parts ≡ L.parts }
     requires some { 0 < blank.parts }
-    requires order { StandInOrder listing.now.items.items listing.now.code.now }
-    requires limit { length listing.now.code.now ≤ 4194304 }
-    requires next { NextStands listing.now.items.items }
-    ensures len { IfOk result (λ labels. length labels ≡ length listing.now.items.items) }
-    ensures meets { IfOk result (λ labels. MeetsFlow listing.now.items.items (labelling_of labels)) }
-    ensures least { IfOk result (λ labels. (any : Labelling) → MeetsFlow listing.now.items.items any → (i : ℕ) → IsAtMost (labelling_of labels i) (any i)) }
+    requires limit { length items.now < 2 ^ 32 }
+    requires numbers { NumbersItems items.now (number_at numbers.now) }
+    requires next { NextStands items.now }
+    ensures len { IfOk result (λ labels. length labels ≡ length items.now) }
+    ensures meets { IfOk result (λ labels. MeetsFlow items.now (labelling_of labels)) }
+    ensures least { IfOk result (λ labels. (any : Labelling) → MeetsFlow items.now any → (i : ℕ) → IsAtMost (labelling_of labels i) (any i)) }
 {
     let mut steps = Steps::<L>::new(blank);
-    label_code(alloc, listing, &mut steps)
+    label_items(alloc, items, numbers, &mut steps)
 }
 
 /// The lowest rule that an item breaks, from the bits of what it calls and what may be private before it.

@@ -1,6 +1,6 @@
 //! What is accepted, and what is refused.
 
-ghost use Rattle.std.specs.Prelude.{◌≡◌, ◌+◌, ◌<◌, ◌^◌, ℕ, true, length, OnOk, IfOk, IfErr};
+ghost use Rattle.std.specs.Prelude.{◌≡◌, ◌+◌, ℕ, true, length, OnOk, IfOk, IfErr};
 ghost use Rattle.cv_word.specs.MemoryMap.{code_base};
 ghost use Rattle.taint_flow.specs.Places.{NumbersItems, number_at};
 ghost use Rattle.conf_verify.specs.declared.rule.Rule.{Rule};
@@ -16,9 +16,7 @@ ghost use Rattle.conf_verify.specs.Answer.{Checked, image_of, checked_of, HasCou
 
 use crate::first_bad::first_bad;
 use crate::rule::Rule;
-use crate::shape::{
-    bad_occurrence, follows_call_word, is_call_word, is_word, one_where, procedure_numbers,
-};
+use crate::shape::{bad_occurrence, follows_call_word};
 use crate::taint::{bad_label, least_labels};
 use code_sweep::{Listing, Placed, SweepError, sweep};
 use cv_word::{CODE_BASE, NoMemory};
@@ -150,28 +148,9 @@ fn check_code(alloc: Global, parts: &Parts<'_>) -> Result<Counts, VerifyError>
     let listing = listing_of(alloc, parts)?;
     let numbers = item_numbers(alloc, &listing)?;
     let items = listing.items.as_slice();
-    check_shape(alloc, parts, items, &numbers)?;
-    check_flow(alloc, parts, &listing, &numbers)?;
-    Ok(count_items(items))
-}
-
-/// How many procedures and items that are no words there are.
-fn count_items(items: &[Placed]) -> Counts
-    requires { length items.now < 2 ^ 32 }
-    ensures procedures { result.procedures ≡ call_words items.now }
-    ensures items { result.items ≡ other_items items.now }
-{
-    let mut procedures = 0;
-    let mut plain = 0;
-    for i in 0..items.len() {
-        let p = items[i];
-        procedures += one_where(is_call_word(&p.item));
-        plain += one_where(!is_word(&p.item));
-    }
-    Counts {
-        procedures,
-        items: plain,
-    }
+    let counts = check_shape(alloc, parts, items, &numbers)?;
+    check_flow(alloc, parts, items, &numbers)?;
+    Ok(counts)
 }
 
 /// V2: the chain of items.
@@ -199,29 +178,34 @@ fn refused(rule: Rule, place: u32) -> VerifyError
     }
 }
 
-/// V3 to V9.
+/// V3 to V9. Where they hold, the counts are those of the items.
 fn check_shape(
     alloc: Global,
     parts: &Parts<'_>,
     items: &[Placed],
     numbers: &ItemNumbers<'_>,
-) -> Result<(), VerifyError>
+) -> Result<Counts, VerifyError>
     requires good { IsGood (image_of parts.now) }
     requires one { length (image_of parts.now).entries ≡ 1 }
     requires listing { HasListing (image_of parts.now) items.now }
     requires numbers { NumbersItems items.now (number_at numbers.now) }
     ensures holds { OnOk result ((rule : Rule) (place : ℕ) → BreaksShape rule (image_of parts.now) items.now place → ⊥) }
+    ensures procedures { IfOk result (λ c. c.procedures ≡ call_words items.now) }
+    ensures items { IfOk result (λ c. c.items ≡ other_items items.now) }
     ensures refused { IfErr result (λ error. IsCodeRefusal (image_of parts.now) error) }
 {
-    let procedures = procedure_numbers(alloc, items)?;
-    let first = first_bad(items, numbers, procedures.as_slice());
+    let first = first_bad(items, numbers);
     check_items(parts, items, Rule::V3, first.end)?;
     check_prefix(alloc, parts, items, numbers)?;
     check_items(parts, items, Rule::V5, first.return_word)?;
     check_items(parts, items, Rule::V6, first.jump)?;
     check_items(parts, items, Rule::V7, first.call)?;
     check_items(parts, items, Rule::V8, first.result)?;
-    check_entry(parts, items, numbers)
+    check_entry(parts, items, numbers)?;
+    Ok(Counts {
+        procedures: first.procedures,
+        items: first.items,
+    })
 }
 
 /// V3 and V5 to V8: refuses by the rule at the first item that breaks it, if there is one.
@@ -292,19 +276,17 @@ fn check_entry(
 fn check_flow(
     alloc: Global,
     parts: &Parts<'_>,
-    listing: &Listing<'_>,
+    items: &[Placed],
     numbers: &ItemNumbers<'_>,
 ) -> Result<(), VerifyError>
     requires good { IsGood (image_of parts.now) }
-    requires code { listing.now.code.now ≡ (image_of parts.now).code }
-    requires listing { HasListing (image_of parts.now) listing.now.items.items }
-    requires numbers { NumbersItems listing.now.items.items (number_at numbers.now) }
-    requires shape { (rule : Rule) (place : ℕ) → BreaksShape rule (image_of parts.now) listing.now.items.items place → ⊥ }
+    requires listing { HasListing (image_of parts.now) items.now }
+    requires numbers { NumbersItems items.now (number_at numbers.now) }
+    requires shape { (rule : Rule) (place : ℕ) → BreaksShape rule (image_of parts.now) items.now place → ⊥ }
     ensures holds { OnOk result (IsAcceptedImage (image_of parts.now)) }
     ensures refused { IfErr result (λ error. IsCodeRefusal (image_of parts.now) error) }
 {
-    let labels = least_labels::<Brand>(alloc, listing, Blank::new(1))?;
-    let items = listing.items.as_slice();
+    let labels = least_labels::<Brand>(alloc, items, numbers, Blank::new(1))?;
     match bad_label(items, numbers, &labels) {
         Some((i, rule)) => Err(refused(rule, items[i].at)),
         None => Ok(()),

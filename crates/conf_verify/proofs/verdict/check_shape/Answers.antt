@@ -4,8 +4,8 @@ use Rattle.conf_verify.proofs.Ends.{few_items}
 use Rattle.taint_flow.proofs.Chain.{eight_from_listing, apart_from_listing}
 use Rattle.conf_verify.proofs.verdict.check_shape.Goals as goal
 
-pub procedure_numbers-requires : goal.procedure_numbers-requires
-procedure_numbers-requires c = let few = few_items (image_of c.args.parts.now) c.args.items.now c.requires.good c.requires.listing in omega arith
+pub first_bad-first-requires-clause-few : goal.first_bad-first-requires-clause-few
+first_bad-first-requires-clause-few c = let few = few_items (image_of c.args.parts.now) c.args.items.now c.requires.good c.requires.listing in omega arith
 
 pub first_bad-first-requires-clause-eight : goal.first_bad-first-requires-clause-eight
 first_bad-first-requires-clause-eight c =
