@@ -7,7 +7,7 @@ ghost use Rattle.code_sweep.specs.declared.sweeping.SweepError.TheVariants.{NoMe
 
 use crate::item::{Listing, Placed};
 use crate::place::item_at;
-use std::alloc::{AllocFailed, Global};
+use std::alloc::{AllocError, AllocFailed, Global};
 
 /// Why a code has no listing.
 #[derive(Clone, Copy, Debug, PartialEq, Eq)]
@@ -16,6 +16,14 @@ pub enum SweepError {
     NoMemory,
     /// The first place in the chain where no item begins.
     NoItem { at: u32 },
+}
+
+impl From<AllocError> for SweepError {
+    ghost from_gives = { λ _ e. e ≡ NoMemory };
+
+    fn from(_e: AllocError) -> SweepError {
+        SweepError::NoMemory
+    }
 }
 
 impl<T: Drop> From<AllocFailed<T>> for SweepError {
@@ -34,7 +42,8 @@ pub fn sweep<'a>(alloc: Global, code: &'a [u8], prefix: [u8; 6]) -> Result<Listi
     ensures listing { IfOk result (λ l. IsListing prefix code.now l.items.items) }
     ensures broken { IfErr result (IsBreak prefix code.now) }
 {
-    let mut items = Vec::new(alloc);
+    // A plain instruction has some 4 to 7 bytes; where items are shorter, the list grows.
+    let mut items = Vec::with_capacity(alloc, code.len() / 4)?;
     let mut at = 0usize;
     while at < code.len() {
         let Some((item, len)) = item_at(code, at, prefix) else {

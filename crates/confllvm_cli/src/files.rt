@@ -7,6 +7,7 @@ use crate::pieces::{read_all, write_all};
 use cv_io::{LONGEST_LOAD, Store, StoreError};
 use std::alloc::Global;
 use std::fs;
+use std::fs::OpenFile;
 use std::rt::Files;
 
 /// A store over files. It doesn't tell them, and counts its faults up to 2^64 - 1.
@@ -28,7 +29,10 @@ impl<R: Files> FileStore<R> {
         ensures not_missing { IsErrOf result StoreError.Missing → ⊥ }
     {
         match fs::open(&self.rt, name) {
-            Ok(mut file) => read_all(alloc, &mut file),
+            Ok(file) => {
+                let expected = file.metadata().map_or(0, |about| about.len());
+                read_all(alloc, file, expected)
+            }
             Err(_) => Err(StoreError::Failed),
         }
     }
