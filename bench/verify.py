@@ -30,6 +30,18 @@ def straight(size):
 
 def rows(size):
     """Each plain row of the instruction table once, over public registers, again and again."""
+    return repeated(ROWS, size)
+
+
+def items(size):
+    """Every kind of item: procedures of all plain rows, with a call unit, a direct call and their return words, and a return unit."""
+    body = RAX_7 + CALL_UNIT + RETURN_WORD + ROWS
+    call = b"\xe8" + struct.pack("<i", -len(body) - 5) + RETURN_WORD
+    piece = CALL_WORD + body + call + RAX_7 + RETURN_UNIT
+    return piece * ((size - len(CALL_WORD) - len(UD2)) // len(piece)) + CALL_WORD + UD2
+
+
+def all_rows():
     public = "".join(f"{0x40 + r // 8:02x}{0xB8 + r % 8:02x}00100000" for r in range(16) if r != 4)
     table = """
         4889f8 4589f8 4801c8 4809da 4821ee 4829fe 4d31c8 4d39da 4d85ec 4d0faff7 48f7d0 48f7d9 48f7fb 4899
@@ -39,7 +51,10 @@ def rows(size):
         6467498b80fdffffff 6467408b8c2400000000 6467490fb69424ffffff7f 64674c0fbead00000080 64674c63b010000000
         646748898708000000 646745899affffffff 646741889964000000 0f8d00000000 e900000000 90
     """
-    return repeated(bytes.fromhex(public + table), size)
+    return bytes.fromhex(public + table)
+
+
+ROWS = all_rows()
 
 
 def jumps(size):
@@ -79,13 +94,13 @@ def image(code):
 
 def once(command, status):
     """Seconds, and the peak of memory in MB."""
+    silence = [(os.POSIX_SPAWN_OPEN, stream, os.devnull, os.O_WRONLY, 0) for stream in (1, 2)]
     start = time.perf_counter()
-    child = subprocess.Popen(command, stdout=subprocess.DEVNULL, stderr=subprocess.DEVNULL)
-    _, code, usage = os.wait4(child.pid, 0)
+    child = os.posix_spawnp(command[0], command, os.environ, file_actions=silence)
+    _, code, usage = os.wait4(child, 0)
     spent = time.perf_counter() - start
-    child.returncode = os.waitstatus_to_exitcode(code)
-    if child.returncode != status:
-        sys.exit(f"{command}: status {child.returncode}")
+    if os.waitstatus_to_exitcode(code) != status:
+        sys.exit(f"{command}: status {os.waitstatus_to_exitcode(code)}")
     return spent, usage.ru_maxrss / 1e3
 
 
@@ -103,7 +118,7 @@ def written(folder, name, data):
 
 def time_verify(program, folder):
     print("| Code | Bytes | `verify` MB/s | `objdump` MB/s | Ratio | Peak MB |\n|---|---|---|---|---|---|")
-    for shape in (straight, rows, jumps, calls, units, turns):
+    for shape in (items, rows, straight, jumps, calls, units, turns):
         times = []
         for size in (65536, 1048576, 4194304):
             code = shape(size)
