@@ -104,8 +104,8 @@ def once(command, status):
     return spent, usage.ru_maxrss / 1e3
 
 
-def best(command, status=0):
-    runs = [once(command, status) for _ in range(3)]
+def best(command, runs=3, status=0):
+    runs = [once(command, status) for _ in range(runs)]
     return min(spent for spent, _ in runs), max(peak for _, peak in runs)
 
 
@@ -120,10 +120,10 @@ def time_verify(program, folder):
     print("| Code | Bytes | `verify` MB/s | `objdump` MB/s | Ratio | Peak MB |\n|---|---|---|---|---|---|")
     for shape in (items, rows, straight, jumps, calls, units, turns):
         times = []
-        for size in (65536, 1048576, 4194304):
+        for size, runs in ((65536, 20), (1048576, 5), (4194304, 3)):
             code = shape(size)
-            ours, peak = best([program, "verify", written(folder, "image", image(code))])
-            theirs, _ = best(["objdump", "-D", "-b", "binary", "-m", "i386:x86-64", written(folder, "code", code)])
+            ours, peak = best([program, "verify", written(folder, "image", image(code))], runs)
+            theirs, _ = best(["objdump", "-D", "-b", "binary", "-m", "i386:x86-64", written(folder, "code", code)], runs)
             times.append(ours)
             speeds = f"{len(code) / ours / 1e6:.1f} | {len(code) / theirs / 1e6:.1f} | {theirs / ours:.1f}"
             print(f"| {shape.__name__} | {len(code):,} | {speeds} | {peak:.0f} |")
@@ -135,7 +135,7 @@ def time_run(program, folder):
     body = bytes.fromhex("41b800100000 6567498b8000000000 4801c8 656749898000000000 90")
     code = CALL_WORD + bytes.fromhex("40b901000000") + body + b"\xe9" + struct.pack("<i", -len(body) - 5)
     path = written(folder, "loop", image(code))
-    spent, _ = best([program, "run", path, "100000000"], 6)
+    spent, _ = best([program, "run", path, "100000000"], status=6)
     print(f"\n`run`: {100 / spent:.1f} million steps a second")
     if shutil.which("qemu-x86_64") and shutil.which("gcc"):
         source, loop = os.path.join(os.path.dirname(__file__), "loop.c"), os.path.join(folder, "loop.exe")

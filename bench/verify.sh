@@ -1,5 +1,5 @@
 #!/bin/sh
-# Times `confllvm verify` beside `objdump -D` on images of 64 KiB, 1 MiB and 4 MiB of six shapes, with the peak of memory, and
+# Times `confllvm verify` beside `objdump -D` on images of 64 KiB, 1 MiB and 4 MiB of seven shapes, with the peak of memory, and
 # then the steps a second of `confllvm run`, beside those of `qemu-x86_64` where that and gcc are there. Wants python3 and objdump.
 set -eu
 top=$(cd "$(dirname "$0")/.." && pwd)

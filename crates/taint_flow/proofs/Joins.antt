@@ -1,5 +1,5 @@
 -- A join: one label takes in another, and the item is queued.
-use Rattle.std.proofs.Common.{subst, ◌≡◌, ℕ, ◌+◌, ◌-◌, ◌<◌, ◌≤◌, ◌≢◌, Bool, true, false, List, [], ◌∷◌, ◌++◌, length, set, get_or, refl, sym, ◌∙◌, ap, arith, Option, Some, inl, inr, ◌⊎◌}
+use Rattle.std.proofs.Common.{subst, ◌≡◌, ℕ, ◌+◌, ◌-◌, ◌<◌, ◌≤◌, ◌≢◌, Bool, true, false, List, [], ◌∷◌, ◌++◌, length, set, get_or, sym, ◌∙◌, ap, arith, Option, Some, inl, inr, ◌⊎◌}
 use Rattle.std.specs.List.{sum_by}
 use Rattle.std.specs.Int.RustNames.{bit_or}
 use Rattle.std.proofs.lemmas.Option.{same_Some}
@@ -223,21 +223,8 @@ takes_same s j out x inside e same =
     (subst (λ (n : ℕ). IsAtMost (label_of out) (label_of n)) same (at_most_right x.bits out))
 
 -- what holds of the item that is named
-pub at_named : (to : Option ℕ) (j : ℕ) (P : ℕ → Type 0) → to ≡ Some j → P j → (k : ℕ) → to ≡ Some k → P k
-at_named to j P e p k f = subst P (same_Some j k (sym e ∙ f)) p
+pub at_itself : (j : ℕ) (P : ℕ → Type 0) → P j → (k : ℕ) → (let to : Option ℕ = Some j in to) ≡ Some k → P k
+at_itself j P p k e = subst P (same_Some j k e) p
 
 pub queued_read : (queued : List Bool) (j : ℕ) (b t : Bool) → j < length queued → b ≡ get_or queued j b → b ≡ t → get_or queued j false ≡ t
 queued_read queued j b t h e is = sym (get_or_read queued j b h e false) ∙ is
-
--- a state is whole at the count of its own labels
-pub whole_own : (count : ℕ) (s : State) → IsWhole count s → IsWhole (length s.labels) s
-whole_own count s w = subst (λ (n : ℕ). IsWhole n s) (sym w.labels) w
-
-pub rises_same : (s : State) → Rises s s
-rises_same s = record {
-  labels = refl;
-  whole = λ count w. w;
-  higher = λ i k one. one;
-  told = λ i q. (q, refl);
-  work = omega arith;
-}

@@ -4,7 +4,7 @@ use Rattle.std.specs.Prelude.{All, unwrap_or}
 use Rattle.std.specs.Option.{option_map}
 use Rattle.std.specs.List.{slice_get, sum_by}
 use Rattle.std.proofs.lemmas.Option.{same_Some, none-some, slice_get_within, cond_some}
-use Rattle.std.proofs.lemmas.Bool.{cases_eq, cases_lt, true≢false, cond-true, false_from_ne_true}
+use Rattle.std.proofs.lemmas.Bool.{cases_eq, cases_lt, cond-true, false_from_ne_true}
 use Rattle.std.proofs.lemmas.List.{get_or-set_same, get_or-set_other, get_or-replicate, get_or_past, length-replicate, length-set, length_push}
 use Rattle.std.proofs.lemmas.List.Elements.{All-nil, All-push}
 use Rattle.std.proofs.lemmas.List.Folds.{sum_by-replicate}
@@ -76,30 +76,31 @@ next_inside items i p here n j e =
     let within : suc i < length items = n i p here (goes p.item parts.0) in
     omega arith
 
-pub target_inside : (items : List Placed) (number : ℕ → Option ℕ) (place j : ℕ) → NumbersItems items number → number place ≡ Some j → j < length items
-target_inside items number place j n e = let item = n.only place j e in slice_get_within items j item.0 item.1
-
-hands_at : (items : List Placed) (i : ℕ) (p : Placed) (out : Label) (s m t : State) (next target : Option ℕ) (number : ℕ → Option ℕ) →
-    Hands items i p out s next target number → TakesIn next out m → Rises m t → TakesIn target out t → (j : ℕ) →
+hands_at : (items : List Placed) (i : ℕ) (p : Placed) (out : Label) (s t : State) (next target : Option ℕ) (number : ℕ → Option ℕ) →
+    Hands items i p out s next target number → TakesIn next out t → TakesIn target out t → (j : ℕ) →
     (((falls_through p.item ≡ true) × (j ≡ suc i)) ⊎ ((q : Placed) × (slice_get items j ≡ Some q) × (jump_target p ≡ Some (address q)))) →
     IsAtMost out (label_at t j)
-hands_at items i p out s m t next target number h a r b j (inl x) =
+hands_at items i p out s t next target number h a b j (inl x) =
     let named : next ≡ Some j =
     h.next_is ∙ (cond-true (falls_through p.item) (Some (i + 1)) None x.0 ∙ ap (λ (n : ℕ). Some n) (let e : j ≡ suc i = x.1 in omega arith)) in
-    λ k one. r.higher j k (a j named k one)
-hands_at items i p out s m t next target number h a r b j (inr x) =
+    a j named
+hands_at items i p out s t next target number h a b j (inr x) =
     let named : target ≡ Some j = h.found x.0.at x.2 ∙ h.numbers.each j x.0 x.1 in
     b j named
 
-pub handed : (items : List Placed) (i : ℕ) (p : Placed) (out : Label) (s m t : State) (next target : Option ℕ) (number : ℕ → Option ℕ) →
-    Hands items i p out s next target number → TakesIn next out m → Rises m t → TakesIn target out t → HandsOn items i s t
-handed items i p out s m t next target number h a r b j p' there lead =
+pub handed : (items : List Placed) (i : ℕ) (p : Placed) (out : Label) (s t : State) (next target : Option ℕ) (number : ℕ → Option ℕ) →
+    Hands items i p out s next target number → TakesIn next out t → TakesIn target out t → HandsOn items i s t
+handed items i p out s t next target number h a b j p' there lead =
     let same : p ≡ p' = same_Some p p' (sym h.here ∙ there) in
     let same_lead : p ≡ lead.0 = same_Some p lead.0 (sym h.here ∙ lead.1) in
     subst (λ (x : Placed). IsAtMost (left_behind x.item (label_at s i)) (label_at t j)) same
     (subst (λ (l : Label). IsAtMost l (label_at t j)) h.out_is
-    (hands_at items i p out s m t next target number h a r b j
+    (hands_at items i p out s t next target number h a b j
     (subst (λ (x : Placed). (((falls_through x.item ≡ true) × (j ≡ suc i)) ⊎ ((q : Placed) × (slice_get items j ≡ Some q) × (jump_target x ≡ Some (address q))))) (sym same_lead) lead.2)))
+
+-- what was taken in stays in
+pub takes_on : (to : Option ℕ) (out : Label) (s t : State) → TakesIn to out s → Rises s t → TakesIn to out t
+takes_on to out s t a r j e k one = r.higher j k (a j e k one)
 
 out_below : (items : List Placed) (i : ℕ) (p : Placed) (out : Label) (s : State) (next target : Option ℕ) (number : ℕ → Option ℕ) →
     Hands items i p out s next target number → (any : Labelling) → MeetsFlow items any → IsBelow s any → (j : ℕ) → Leads items i j → IsAtMost out (any j)
@@ -107,20 +108,30 @@ out_below items i p out s next target number h any meets below j lead =
     along _ _ _ h.out_is
     (λ k one. meets.leads i j p h.here lead k (left_behind_up p.item (label_at s i) (any i) (below i) k one))
 
+next_below : (items : List Placed) (i : ℕ) (p : Placed) (out : Label) (s : State) (next target : Option ℕ) (number : ℕ → Option ℕ) →
+    Hands items i p out s next target number → (any : Labelling) → MeetsFlow items any → IsBelow s any → (j : ℕ) → next ≡ Some j → IsAtMost out (any j)
+next_below items i p out s next target number h any meets below j e =
+    out_below items i p out s next target number h any meets below j (p, h.here, inl (next_leads items i p out s next target number h j e))
+
+target_below : (items : List Placed) (i : ℕ) (p : Placed) (out : Label) (s : State) (next target : Option ℕ) (number : ℕ → Option ℕ) →
+    Hands items i p out s next target number → (any : Labelling) → MeetsFlow items any → IsBelow s any → (j : ℕ) → target ≡ Some j → IsAtMost out (any j)
+target_below items i p out s next target number h any meets below j e =
+    out_below items i p out s next target number h any meets below j (p, h.here, inr (target_leads items i p out s next target number h j e))
+
 pub handed_least : (items : List Placed) (i : ℕ) (p : Placed) (out : Label) (s m t : State) (next target : Option ℕ) (number : ℕ → Option ℕ) →
-    Hands items i p out s next target number → StaysBelow next out s m → StaysBelow target out m t → StaysLeast items s t
+    Hands items i p out s next target number → StaysBelow target out s m → StaysBelow next out m t → StaysLeast items s t
 handed_least items i p out s m t next target number h a b any meets below =
-    b any
-    (λ j e. out_below items i p out s next target number h any meets below j (p, h.here, inr (target_leads items i p out s next target number h j e)))
-    (a any
-    (λ j e. out_below items i p out s next target number h any meets below j (p, h.here, inl (next_leads items i p out s next target number h j e)))
-    below)
+    b any (next_below items i p out s next target number h any meets below) (a any (target_below items i p out s next target number h any meets below) below)
+
+-- whether an item leads to the next, as the code found it
+pub next_if : (falls : Bool) (i : ℕ) (item : Item) → falls ≡ falls_through item → (let next : Option ℕ = cond falls (Some (i + 1)) None in next) ≡ cond (falls_through item) (Some (i + 1)) None
+next_if falls i item e = ap (λ (b : Bool). let next : Option ℕ = cond b (Some (i + 1)) None in next) e
 
 -- a number taken off the stack, and its flag cleared
 abbrev pub popped : State → ℕ → List ℕ → ℕ → State
 popped s i rest room = record { labels = s.labels; queued = set s.queued i false; stack = rest; room = room }
 
-top_inside : (count : ℕ) (s : State) (i : ℕ) (rest : List ℕ) → IsWhole count s → TakesOff s.stack i rest → i < count
+pub top_inside : (count : ℕ) (s : State) (i : ℕ) (rest : List ℕ) → IsWhole count s → TakesOff s.stack i rest → i < count
 top_inside count s i rest w e = (e.small count w.inside).0
 
 -- it was queued, and stands nowhere else
@@ -385,18 +396,6 @@ least_more : (items : List Placed) (i : ℕ) (p : Placed) (s m t : State) → St
 least_more items i p s m t least stays here any meets below =
     stays any (word_below items i p any meets here) (least any meets below)
 
--- the search begins and ends
-queued_apart : (b : Bool) → b ≡ true → b ≡ false → ⊥
-queued_apart b t f = true≢false (sym t ∙ f)
-
-pub sound_from_fresh : (items : List Placed) (s : State) → IsFresh (length items) s → IsSound items 0 s
-sound_from_fresh items s fresh = record {
-  whole = fresh.whole;
-  words = λ i p l small. absurd (omega (arith, small));
-  done = λ k q j p here lead. absurd (queued_apart (is_queued s k) (fresh.all_queued k (slice_get_within items k p here)) q);
-  below = λ any meets k name one. absurd (true≢false (sym one ∙ fresh.public k name));
-}
-
 -- after labels have risen
 sound_risen : (items : List Placed) (count more : ℕ) (s t : State) → IsSound items count s → Rises s t → HasWords items more t →
     StaysLeast items s t → IsSound items more t
@@ -409,6 +408,7 @@ sound_risen items count more s t sound r words least = record {
   below = λ any meets. least any meets (sound.below any meets);
 }
 
+-- the search ends
 unqueued : (items : List Placed) (s : State) → IsSound items (length items) s → s.stack ≡ [] → (i : ℕ) → is_queued s i ≡ false
 unqueued items s sound e i =
     false_from_ne_true (is_queued s i) (λ q.

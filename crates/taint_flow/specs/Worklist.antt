@@ -24,6 +24,10 @@ state_over below w = record { labels = w.labels.items; queued = w.queued.items; 
 abbrev pub state_of : Worklist → State
 state_of w = state_over [] w
 
+-- where the test holds, number j counts as on top of the stack
+abbrev pub topped : Bool → ℕ → State → State
+topped b j s = record { labels = s.labels; queued = s.queued; stack = if b then s.stack ++ j ∷ [] else s.stack; room = s.room }
+
 -- so many numbers from i on, the lowest on top: the items that wait for their first turn
 unfoldable pub waiting : ℕ → ℕ → List ℕ
 waiting i zero = []

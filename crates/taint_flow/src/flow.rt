@@ -1,6 +1,6 @@
 //! The least labels that meet the flow rules.
 
-ghost use Rattle.std.specs.Prelude.{◌≡◌, ℕ, suc, ◌+◌, ◌*◌, ◌<◌, ◌≤◌, ◌^◌, [], List, Option, Some, None, slice_get, length, OnErr, IfOk, if◌then◌else◌};
+ghost use Rattle.std.specs.Prelude.{◌≡◌, ℕ, suc, true, ◌+◌, ◌*◌, ◌<◌, ◌≤◌, ◌^◌, [], List, Option, Some, None, slice_get, length, OnErr, IfOk, vec_capacity};
 ghost use Rattle.cv_word.specs.Arithmetic.{added};
 ghost use Rattle.cv_word.specs.MemoryMap.{code_base};
 ghost use Rattle.cv_word.specs.Words.{widened};
@@ -9,11 +9,11 @@ ghost use Rattle.taint_flow.specs.Label.{IsAtMost, entry_label};
 ghost use Rattle.taint_flow.specs.Flow.{Labelling, MeetsFlow, falls_through, left_behind, jump_target, address_after};
 ghost use Rattle.taint_flow.specs.Bits.{label_of, labelling_of};
 ghost use Rattle.taint_flow.specs.Places.{StandInOrder, NextStands, NumbersItems, number_at};
-ghost use Rattle.taint_flow.specs.Worklist.{state_of, state_over, waiting, label_at, all_private, work_left, IsWhole, Rises, HandsOn, StaysLeast, IsFresh, IsSound, behind_word, word_label};
+ghost use Rattle.taint_flow.specs.Worklist.{state_of, state_over, topped, waiting, label_at, all_private, work_left, IsWhole, Rises, HandsOn, StaysLeast, IsFresh, IsSound, behind_word, word_label};
 
 use crate::label::{Label, entry_label, left_by, return_label};
 use crate::places::{ItemNumbers, item_numbers};
-use crate::worklist::{Worklist, join};
+use crate::worklist::{Worklist, join, raise};
 use code_sweep::{Item, Listing, Placed};
 use cv_word::{CODE_BASE, NoMemory, Steps};
 use std::alloc::Global;
@@ -73,7 +73,7 @@ pub fn label_code<L: Ledger>(
     label_items(alloc, listing.items.as_slice(), &numbers, steps)
 }
 
-/// The same as [`label_code`], of items whose numbers are at hand.
+/// The least labels as [`label_code`] answers them, of fewer than 2^32 items whose numbers are at hand.
 pub fn label_items<L: Ledger>(
     alloc: Global,
     items: &[Placed],
@@ -172,9 +172,66 @@ fn settle<L: Ledger>(
     ensures bound { steps.new ≤ steps.old + work_left (state_of w.old) }
 {
     while let Some(i) = w.stack.pop() {
-        let i = i as usize;
-        w.queued[i] = false;
-        hand_on(w, items, numbers, i, steps);
+        follow(w, items, numbers, i as usize, steps);
+    }
+}
+
+/// Lets item `i`, which was taken off the stack, hand on what it leaves, and then each item behind it whose label that raises.
+#[inline(never)]
+fn follow<L: Ledger>(
+    w: &mut Worklist,
+    items: &[Placed],
+    numbers: &ItemNumbers<'_>,
+    i: usize,
+    steps: &mut Steps<L>,
+)
+    requires sound { IsSound items.now (length items.now) (topped true i (state_of w.old)) }
+    requires limit { length items.now < 2 ^ 32 }
+    requires numbers { NumbersItems items.now (number_at numbers.now) }
+    requires next { NextStands items.now }
+    ensures sound { IsSound items.now (length items.now) (state_of w.new) }
+    ensures fall { work_left (state_of w.new) < work_left (topped true i (state_of w.old)) }
+    ensures bound { steps.new + work_left (state_of w.new) ≤ steps.old + work_left (topped true i (state_of w.old)) }
+{
+    let mut at = i;
+    loop {
+        w.queued[at] = false;
+        if !lead_on(w, items, numbers, at, steps) {
+            return;
+        }
+        at += 1;
+    }
+}
+
+/// Joins what item `i` leaves into the labels of the items that it leads to, and answers whether the one behind it is to be
+/// looked at next.
+#[inline(always)]
+fn lead_on<L: Ledger>(
+    w: &mut Worklist,
+    items: &[Placed],
+    numbers: &ItemNumbers<'_>,
+    i: usize,
+    steps: &mut Steps<L>,
+) -> bool
+    requires whole { (below : List ℕ) × IsWhole (length items.now) (state_over below w.old) }
+    requires inside { i < length items.now }
+    requires names { IsAtMost (label_at (state_of w.old) i) all_private }
+    requires limit { length items.now < 2 ^ 32 }
+    requires numbers { NumbersItems items.now (number_at numbers.now) }
+    requires next { NextStands items.now }
+    ensures rises { (below : List ℕ) → Rises (state_over below w.old) (topped result (i + 1) (state_over below w.new)) }
+    ensures room { result ≡ true → (i + 1 < length items.now) × (length w.new.stack.items < vec_capacity w.new.stack) }
+    ensures handed { HandsOn items.now i (state_of w.old) (state_of w.new) }
+    ensures least { StaysLeast items.now (state_of w.old) (state_of w.new) }
+    ensures step { steps.new ≡ steps.old + 1 }
+{
+    let p = &items[i];
+    let out = left_behind(&p.item, w.labels[i], steps);
+    join(w, target_number(numbers, p), out);
+    if falls_through(&p.item) {
+        raise(w, i + 1, out)
+    } else {
+        false
     }
 }
 
@@ -197,10 +254,9 @@ fn hand_on<L: Ledger>(
     ensures least { StaysLeast items.now (state_of w.old) (state_of w.new) }
     ensures step { steps.new ≡ steps.old + 1 }
 {
-    let p = &items[i];
-    let out = left_behind(&p.item, w.labels[i], steps);
-    join(w, next_number(&p.item, i), out);
-    join(w, target_number(numbers, p), out);
+    if lead_on(w, items, numbers, i, steps) {
+        w.stack.push_reserved((i + 1) as u32);
+    }
 }
 
 /// What may be private behind an item. Each use of an item's row is here, and is a step.
@@ -215,18 +271,7 @@ fn left_behind<L: Ledger>(item: &Item, l: Label, steps: &mut Steps<L>) -> Label
     }
 }
 
-/// The number of the item behind, if the item leads there.
-fn next_number(item: &Item, i: usize) -> Option<u32>
-    requires { i + 1 < 2 ^ 32 }
-    ensures { result ≡ (if falls_through item.now then Some (i + 1) else None) }
-{
-    if falls_through(item) {
-        Some((i + 1) as u32)
-    } else {
-        None
-    }
-}
-
+/// Whether the item leads to the one behind it.
 fn falls_through(item: &Item) -> bool
     ensures { result ≡ falls_through item.now }
 {
