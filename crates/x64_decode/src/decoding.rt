@@ -456,6 +456,7 @@ fn behind_escape(wide: bool, hx: u8, hy: u8, bytes: &[u8]) -> Option<(Instr, &[u
 }
 
 /// Behind REX.
+#[inline(always)]
 #[tactic(auto, unfolding(crate::specs::Reading::after_rex))]
 fn behind_rex(wide: bool, hx: u8, hy: u8, bytes: &[u8]) -> Option<(Instr, &[u8])>
     requires x { hx < 2 }
@@ -646,6 +647,7 @@ fn behind_access_escape(
 }
 
 /// An access to memory, behind its prefixes and REX.
+#[inline(always)]
 #[tactic(auto, unfolding(crate::specs::Reading::access_at))]
 fn access(seg: Seg, wide: bool, hx: u8, hy: u8, bytes: &[u8]) -> Option<(Instr, &[u8])>
     requires x { hx < 2 }
