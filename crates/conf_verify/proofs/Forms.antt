@@ -1,5 +1,5 @@
 -- Where the form of the bytes is wrong.
-use Rattle.std.proofs.Common.{◌≡◌, ◌≢◌, ℕ, ◌<◌, ◌≤◌, List, length, get_or, slice_index, refl, sym, ◌∙◌, ap, subst, arith, ◌⊎◌, inl, inr}
+use Rattle.std.proofs.Common.{◌≡◌, ℕ, ◌<◌, ◌≤◌, List, length, get_or, slice_index, refl, sym, ◌∙◌, ap, subst, arith, inl, inr}
 use Rattle.std.proofs.lemmas.Bool.{cases_lt}
 use Rattle.image_form.specs.Image.{Image, IsGood, spelling}
 use Rattle.image_form.specs.Table.{IsWrongAt, IsImageFile, IsFault}
@@ -37,20 +37,4 @@ pub other_count : (bytes : List ℕ) (image : Image) → IsGood image × (bytes 
 other_count bytes image found table not = record {
   wrong = inr (refl, λ one. not (sym (count_spelled bytes image found.1) ∙ one));
   least = λ other low wrong. elim wrong [ inl at ↦ image_has_no_wrong bytes other table at | inr count ↦ let five = count.0 in omega arith ];
-}
-
--- a file that is no image: its fault, or the number of entries before it
-fault_first : (bytes : List ℕ) (place : ℕ) → IsFault bytes place → (place ≤ 5 ⊎ (slice_index bytes 5 ≡ 1)) → IsLeastWrong bytes place
-fault_first bytes place fault early = record {
-  wrong = inl fault.wrong;
-  least = λ other low wrong. elim wrong [
-    | inl at ↦ fault.least other low at
-    | inr count ↦ elim early [ inl before ↦ (let five = count.0 in omega arith) | inr one ↦ count.1 one ]
-  ];
-}
-
-count_first : (bytes : List ℕ) (place : ℕ) → IsFault bytes place → 5 < place → slice_index bytes 5 ≢ 1 → IsLeastWrong bytes 5
-count_first bytes place fault behind not = record {
-  wrong = inr (refl, not);
-  least = λ other low wrong. elim wrong [ inl at ↦ fault.least other (omega arith) at | inr count ↦ let five = count.0 in omega arith ];
 }

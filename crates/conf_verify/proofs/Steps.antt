@@ -14,7 +14,7 @@ use Rattle.taint_flow.specs.Flow.{jump_target}
 use Rattle.taint_flow.specs.Places.{goes_on, NextStands}
 use Rattle.image_form.specs.Image.{Image, IsGood}
 use Rattle.conf_verify.specs.declared.rule.Rule.{Rule}
-use Rattle.conf_verify.specs.declared.rule.Rule.TheVariants.{V1, V2, V3, V4, V5, V6, V7, V8, V9, V10, V11, V12, V13, V14, V15, V16}
+use Rattle.conf_verify.specs.declared.rule.Rule.TheVariants.{V3, V4, V5, V6, V7, V8, V9}
 use Rattle.conf_verify.specs.Rules.{BreaksShape, BreaksPrefix, HasReturnWord, fits_result, FollowsCall, FollowsCallWord, IsLast, is_call_word, may_end, is_flow_rule, rule_number}
 use Rattle.taint_flow.specs.Calls.{callee, call_target, is_call}
 use Rattle.conf_verify.specs.Search.{BadBy, BadEnd, BadReturn, BadJump, BadCall, BadResult, BadOccurrence, is_item_rule}
@@ -40,24 +40,6 @@ least_place prefix code items Bad i p chain e first j q f low bad = first j (com
 
 -- ---- which rules hold so far
 
-some_number : (rule : Rule) → 0 < rule_number rule
-some_number V1 = omega arith
-some_number V2 = omega arith
-some_number V3 = omega arith
-some_number V4 = omega arith
-some_number V5 = omega arith
-some_number V6 = omega arith
-some_number V7 = omega arith
-some_number V8 = omega arith
-some_number V9 = omega arith
-some_number V10 = omega arith
-some_number V11 = omega arith
-some_number V12 = omega arith
-some_number V13 = omega arith
-some_number V14 = omega arith
-some_number V15 = omega arith
-some_number V16 = omega arith
-
 more_holds : (image : Image) (items : List Placed) (r : Rule) (n : ℕ) → rule_number r ≡ n → HoldsBelow image items n → ((place : ℕ) → BreaksShape r image items place → ⊥) → HoldsBelow image items (suc n)
 more_holds image items r n is below none rule place low b =
     elim (cases_order (rule_number rule) n) [
@@ -65,30 +47,8 @@ more_holds image items r n is below none rule place low b =
       | inr h ↦ elim h [ inl lower ↦ below rule place lower b | inr higher ↦ omega arith ]
     ]
 
-none_below : (image : Image) (items : List Placed) → HoldsBelow image items 1
-none_below image items rule place low b = let some = some_number rule in omega arith
-
 pub holds_five : (image : Image) (items : List Placed) → HoldsBelow image items 4 → ((place : ℕ) → BreaksPrefix image.prefix image.code items place → ⊥) → HoldsBelow image items 5
 holds_five image items below none = more_holds image items V4 4 refl below none
-
--- a rule with another number isn't a rule on shapes
-number_of_last : (rule : Rule) → 9 < rule_number rule → (image : Image) (items : List Placed) (place : ℕ) → BreaksShape rule image items place → ⊥
-number_of_last V1 h image items place b = b
-number_of_last V2 h image items place b = b
-number_of_last V3 h image items place b = omega arith
-number_of_last V4 h image items place b = omega arith
-number_of_last V5 h image items place b = omega arith
-number_of_last V6 h image items place b = omega arith
-number_of_last V7 h image items place b = omega arith
-number_of_last V8 h image items place b = omega arith
-number_of_last V9 h image items place b = omega arith
-number_of_last V10 h image items place b = b
-number_of_last V11 h image items place b = b
-number_of_last V12 h image items place b = b
-number_of_last V13 h image items place b = b
-number_of_last V14 h image items place b = b
-number_of_last V15 h image items place b = b
-number_of_last V16 h image items place b = b
 
 -- ---- rules that speak of items one by one
 

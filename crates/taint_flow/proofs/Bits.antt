@@ -15,10 +15,6 @@ turned : (b : ℕ) → b < 2 → (private : Bool) → (eqb b 1 ≡ private → �
 turned b small true other = eq-eqb _ _ (let h : b ≢ 1 = λ e. other (eq-eqb b 1 e) in omega arith)
 turned b small false other = ne_eqb _ _ (λ e. other (ne_eqb b 1 (omega arith)))
 
-kept_at : (l : Label) (k i : ℕ) (private : Bool) → l k ≡ private → (i ≡ k) ⊎ (i ≡ k → ⊥) → l i ≡ set k private l i
-kept_at l k i private h (inl e) = (ap l e ∙ h) ∙ sym (cond-true (eqb i k) private (l i) (eq-eqb i k e))
-kept_at l k i private h (inr n) = sym (cond-false (eqb i k) private (l i) (ne_eqb i k n))
-
 turned_at : (n k i : ℕ) (private : Bool) → (label_of n k ≡ private → ⊥) → (i ≡ k) ⊎ (i ≡ k → ⊥) →
     label_of (bit_xor n (2 ^ k)) i ≡ set k private (label_of n) i
 turned_at n k i private h (inl e) =
