@@ -96,7 +96,7 @@ def once(command, status):
     """Seconds, and the peak of memory in MB."""
     silence = [(os.POSIX_SPAWN_OPEN, stream, os.devnull, os.O_WRONLY, 0) for stream in (1, 2)]
     start = time.perf_counter()
-    child = os.posix_spawnp(command[0], command, os.environ, file_actions=silence)
+    child = os.posix_spawn(command[0], command, {}, file_actions=silence)
     _, code, usage = os.wait4(child, 0)
     spent = time.perf_counter() - start
     if os.waitstatus_to_exitcode(code) != status:
@@ -104,9 +104,13 @@ def once(command, status):
     return spent, usage.ru_maxrss / 1e3
 
 
-def best(command, runs=3, status=0):
-    runs = [once(command, status) for _ in range(runs)]
-    return min(spent for spent, _ in runs), max(peak for _, peak in runs)
+def in_turn(commands, status=0):
+    """For each command the least time and the peak of memory, run in turn for two seconds, and three times at least."""
+    runs = []
+    end = time.perf_counter() + 2
+    while len(runs) < 3 or time.perf_counter() < end:
+        runs.append([once(command, status) for command in commands])
+    return [(min(spent for spent, _ in each), max(peak for _, peak in each)) for each in zip(*runs)]
 
 
 def written(folder, name, data):
@@ -117,13 +121,15 @@ def written(folder, name, data):
 
 
 def time_verify(program, folder):
+    objdump = shutil.which("objdump")
     print("| Code | Bytes | `verify` MB/s | `objdump` MB/s | Ratio | Peak MB |\n|---|---|---|---|---|---|")
     for shape in (items, rows, straight, jumps, calls, units, turns):
         times = []
-        for size, runs in ((65536, 20), (1048576, 5), (4194304, 3)):
+        for size in (65536, 1048576, 4194304):
             code = shape(size)
-            ours, peak = best([program, "verify", written(folder, "image", image(code))], runs)
-            theirs, _ = best(["objdump", "-D", "-b", "binary", "-m", "i386:x86-64", written(folder, "code", code)], runs)
+            verify = [program, "verify", written(folder, "image", image(code))]
+            dump = [objdump, "-D", "-b", "binary", "-m", "i386:x86-64", written(folder, "code", code)]
+            (ours, peak), (theirs, _) = in_turn([verify, dump])
             times.append(ours)
             speeds = f"{len(code) / ours / 1e6:.1f} | {len(code) / theirs / 1e6:.1f} | {theirs / ours:.1f}"
             print(f"| {shape.__name__} | {len(code):,} | {speeds} | {peak:.0f} |")
@@ -135,7 +141,7 @@ def time_run(program, folder):
     body = bytes.fromhex("41b800100000 6567498b8000000000 4801c8 656749898000000000 90")
     code = CALL_WORD + bytes.fromhex("40b901000000") + body + b"\xe9" + struct.pack("<i", -len(body) - 5)
     path = written(folder, "loop", image(code))
-    spent, _ = best([program, "run", path, "100000000"], status=6)
+    [(spent, _)] = in_turn([[program, "run", path, "100000000"]], status=6)
     print(f"\n`run`: {100 / spent:.1f} million steps a second")
     if shutil.which("qemu-x86_64") and shutil.which("gcc"):
         source, loop = os.path.join(os.path.dirname(__file__), "loop.c"), os.path.join(folder, "loop.exe")
