@@ -1,4 +1,4 @@
--- An item that V5 to V8 don't speak of breaks none of them, and counts as no word.
+-- An item that V5, V7 and V8 don't speak of breaks none of them, and counts as no word.
 use Rattle.std.proofs.Common.{◌≡◌, ℕ, suc, inl, inr, ◌+◌, ◌<◌, false, List, length, take, get_or, Option, Some, None, refl, sym, ◌∙◌, ap, subst, slice_get, cond, not}
 use Rattle.std.proofs.lemmas.Bool.{true≢false}
 use Rattle.std.proofs.lemmas.Option.{none-some, get_or_from_slice_get}
@@ -6,6 +6,7 @@ use Rattle.std.specs.Option.{option_or}
 use Rattle.code_sweep.specs.declared.item.Item.{Item}
 use Rattle.code_sweep.specs.declared.item.Item.TheVariants.{Call, Ret, Plain, ReturnUnit, CallUnit}
 use Rattle.code_sweep.specs.declared.item.Placed.{Placed}
+use Rattle.taint_flow.specs.Flow.{jump_target}
 use Rattle.taint_flow.specs.Calls.{call_bits}
 use Rattle.conf_verify.specs.Rules.{is_word, is_call_word, call_words, other_items, last_bits}
 use Rattle.conf_verify.specs.Search.{BadCall, BadJump, BadResult, BadReturn, IsQuiet}
@@ -23,9 +24,6 @@ quiet_return items i d quiet bad =
       | inl call ↦ true≢false (sym call.0 ∙ q.call)
       | inr word ↦ true≢false (sym (ap is_word word.1) ∙ q.word)
     ]
-
-pub quiet_jump : (items : List Placed) (i : ℕ) (d : Placed) → IsQuiet (get_or items i d) → BadJump items i → ⊥
-quiet_jump items i d quiet bad = none-some bad.1 (sym (quiet_there items i d bad.0 quiet bad.2).jump ∙ bad.3)
 
 pub quiet_call : (items : List Placed) (i : ℕ) (d : Placed) → IsQuiet (get_or items i d) → BadCall items i → ⊥
 quiet_call items i d quiet bad = none-some bad.1 (sym (quiet_there items i d bad.0 quiet bad.2).target ∙ bad.3)
@@ -56,3 +54,9 @@ quiet_others items i before d inside e quiet = counted_others items i before 1 d
 
 pub quiet_bits : (items : List Placed) (i : ℕ) (d : Placed) (before : Option ℕ) → i < length items → before ≡ last_bits (take i items) → IsQuiet (get_or items i d) → before ≡ last_bits (take (suc i) items)
 quiet_bits items i d before inside e quiet = bits_next items i d before before inside e (ap (λ o. option_or o before) (no_bits (get_or items i d).item quiet.word))
+
+-- an item that is no jump breaks no rule on jumps
+pub no_jump : (items : List Placed) (i : ℕ) (d : Placed) → jump_target (get_or items i d) ≡ None → BadJump items i → ⊥
+no_jump items i d none bad =
+    let same = get_or_from_slice_get items i bad.0 d bad.2 in
+    none-some bad.1 (sym none ∙ (ap (λ (x : Placed). jump_target x) same ∙ bad.3))

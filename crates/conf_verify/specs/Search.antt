@@ -48,11 +48,10 @@ abbrev pub BadResult : List Placed → ℕ → Type 0
 BadResult items i =
     (p : Placed) × (bit bits : ℕ) × (slice_get items i ≡ Some p) × (p.item ≡ ReturnUnit bit) × (procedure_bits items i ≡ Some bits) × (bit ≢ bit_at bits 4)
 
--- the item is no word, neither calls nor jumps, and is no return unit: V5 to V8 don't speak of it
+-- the item is no word, doesn't call, and is no return unit: V5, V7 and V8 don't speak of it
 pub record IsQuiet (p : Placed) : Type 0 where
   pub word : is_word p.item ≡ false
   pub call : is_call p.item ≡ false
-  pub jump : jump_target p ≡ None
   pub target : call_target p ≡ None
   pub unit : (bit : ℕ) → p.item ≡ ReturnUnit bit → ⊥
 

@@ -4,6 +4,7 @@ ghost use Rattle.std.specs.Prelude.{◌≡◌, ◌<◌, ℕ, IsTrue, true, false
 ghost use Rattle.std.specs.Option.{option_or};
 ghost use Rattle.taint_flow.specs.Places.{NumbersItems, StandApart, number_at};
 ghost use Rattle.taint_flow.specs.Calls.{AreEight, call_bits, callee};
+ghost use Rattle.taint_flow.specs.Flow.{jump_target};
 ghost use Rattle.conf_verify.specs.Rules.{FollowsCall, HasReturnWord, fits_result};
 ghost use Rattle.conf_verify.specs.Search.{BadCall, BadResult, BadReturn, IsBadResult, IsQuiet, ret_bit};
 
@@ -60,14 +61,13 @@ fn follows_call(items: &[Placed], i: usize) -> bool
     is_call(&q.item)
 }
 
-/// Whether an item is an instruction that neither calls nor jumps. V5 to V8 don't speak of it.
+/// Whether an item is an instruction that doesn't call. V5, V7 and V8 don't speak of it, and V6 only of such.
 pub fn is_quiet(p: &Placed) -> bool
-    ensures { IsTrue result → IsQuiet p.now }
+    ensures yes { IsTrue result → IsQuiet p.now }
+    ensures no { result ≡ false → jump_target p.now ≡ None }
 {
     match p.item {
         Item::Plain(Instr::Call { rel: _ }) => false,
-        Item::Plain(Instr::Jmp { rel: _ }) => false,
-        Item::Plain(Instr::Jcc { cc: _, rel: _ }) => false,
         Item::Plain(_) => true,
         _ => false,
     }

@@ -99,15 +99,15 @@ pub fn first_bad(items: &[Placed], numbers: &ItemNumbers<'_>) -> FirstBad
         procedure = procedure_from(items, procedure, i);
         first.end = first_of(first.end, is_bad_end(items, procedure, i), i);
         if is_quiet(p) {
+            let bad_jump = is_bad_jump(items, numbers, procedure, i);
+            first.jump = first_of(first.jump, bad_jump, i);
             first.items += 1;
             continue;
         }
         bits = bits_from(&p.item, bits);
         first.procedures += one_where(is_call_word(&p.item));
         first.items += one_where(!is_word(&p.item));
-        let bad_jump = is_bad_jump(items, numbers, procedure, i);
         first.return_word = first_of(first.return_word, is_bad_return(items, numbers, i), i);
-        first.jump = first_of(first.jump, bad_jump, i);
         first.call = first_of(first.call, is_bad_call(items, numbers, i), i);
         first.result = first_of(first.result, is_bad_result(&p.item, bits), i);
     }

@@ -40,54 +40,54 @@ count_small items code o = count_at items code o (length items) refl
 
 -- the first so many items are found from their blocks' entries on
 abbrev pub FindsFirst : List Placed → ℕ → List ℕ → Type 0
-FindsFirst items count firsts = (j : ℕ) (q : Placed) → j < count → slice_get items j ≡ Some q → slice_index firsts (q.at / 16) ≤ j
+FindsFirst items count firsts = (j : ℕ) (q : Placed) → j < count → slice_get items j ≡ Some q → slice_index firsts (q.at / 8) ≤ j
 
 -- the table after item i, which begins in the block
 abbrev pub with_first : List ℕ → ℕ → ℕ → List ℕ
 with_first firsts block i = set firsts block (min (slice_index firsts block) i)
 
 finds_older : (items : List Placed) (firsts : List ℕ) (i block j : ℕ) (q : Placed) → block < length firsts → FindsFirst items i firsts → j < i →
-    slice_get items j ≡ Some q → (q.at / 16 ≡ block) ⊎ (q.at / 16 ≢ block) → slice_index (with_first firsts block i) (q.at / 16) ≤ j
+    slice_get items j ≡ Some q → (q.at / 8 ≡ block) ⊎ (q.at / 8 ≢ block) → slice_index (with_first firsts block i) (q.at / 8) ≤ j
 finds_older items firsts i block j q inside old less there (inl same) =
-    let now : slice_index (with_first firsts block i) (q.at / 16) ≡ min (slice_index firsts block) i =
+    let now : slice_index (with_first firsts block i) (q.at / 8) ≡ min (slice_index firsts block) i =
     ap (λ (b : ℕ). slice_index (with_first firsts block i) b) same ∙ get_or-set_same firsts block (min (slice_index firsts block) i) 0 inside in
     let was : slice_index firsts block ≤ j = subst (λ (b : ℕ). slice_index firsts b ≤ j) same (old j q less there) in
     let low = min-le_left (slice_index firsts block) i in
     omega (arith, now, was, low)
 finds_older items firsts i block j q inside old less there (inr other) =
-    subst (λ (n : ℕ). n ≤ j) (sym (get_or-set_other firsts block (q.at / 16) (min (slice_index firsts block) i) 0 other)) (old j q less there)
+    subst (λ (n : ℕ). n ≤ j) (sym (get_or-set_other firsts block (q.at / 8) (min (slice_index firsts block) i) 0 other)) (old j q less there)
 
-finds_new : (items : List Placed) (firsts : List ℕ) (i : ℕ) (p : Placed) → p.at / 16 < length firsts →
-    slice_index (with_first firsts (p.at / 16) i) (p.at / 16) ≤ i
+finds_new : (items : List Placed) (firsts : List ℕ) (i : ℕ) (p : Placed) → p.at / 8 < length firsts →
+    slice_index (with_first firsts (p.at / 8) i) (p.at / 8) ≤ i
 finds_new items firsts i p inside =
-    let now = get_or-set_same firsts (p.at / 16) (min (slice_index firsts (p.at / 16)) i) 0 inside in
-    let low = min-le_right (slice_index firsts (p.at / 16)) i in
+    let now = get_or-set_same firsts (p.at / 8) (min (slice_index firsts (p.at / 8)) i) 0 inside in
+    let low = min-le_right (slice_index firsts (p.at / 8)) i in
     subst (λ (n : ℕ). n ≤ i) (sym now) low
 
-finds_each : (items : List Placed) (firsts : List ℕ) (i : ℕ) (p : Placed) → slice_get items i ≡ Some p → p.at / 16 < length firsts →
+finds_each : (items : List Placed) (firsts : List ℕ) (i : ℕ) (p : Placed) → slice_get items i ≡ Some p → p.at / 8 < length firsts →
     FindsFirst items i firsts → (j : ℕ) (q : Placed) → j < i + 1 → slice_get items j ≡ Some q → (j ≡ i) ⊎ (j ≢ i) →
-    slice_index (with_first firsts (p.at / 16) i) (q.at / 16) ≤ j
+    slice_index (with_first firsts (p.at / 8) i) (q.at / 8) ≤ j
 finds_each items firsts i p here inside old j q less there (inl e) =
     let same : p ≡ q = same_Some p q (sym here ∙ (ap (λ (n : ℕ). slice_get items n) (sym e) ∙ there)) in
     let new = finds_new items firsts i p inside in
-    subst (λ (n : ℕ). slice_index (with_first firsts (p.at / 16) i) (q.at / 16) ≤ n) (sym e)
-    (subst (λ (x : Placed). slice_index (with_first firsts (p.at / 16) i) (x.at / 16) ≤ i) same new)
+    subst (λ (n : ℕ). slice_index (with_first firsts (p.at / 8) i) (q.at / 8) ≤ n) (sym e)
+    (subst (λ (x : Placed). slice_index (with_first firsts (p.at / 8) i) (x.at / 8) ≤ i) same new)
 finds_each items firsts i p here inside old j q less there (inr n) =
-    finds_older items firsts i (p.at / 16) j q inside old (omega arith) there (cases_eq (q.at / 16) (p.at / 16))
+    finds_older items firsts i (p.at / 8) j q inside old (omega arith) there (cases_eq (q.at / 8) (p.at / 8))
 
-pub finds_more : (items : List Placed) (firsts : List ℕ) (i : ℕ) (p : Placed) (first : ℕ) → slice_get items i ≡ Some p → p.at / 16 < length firsts →
-    first ≡ min (slice_index firsts (p.at / 16)) i → FindsFirst items i firsts → FindsFirst items (i + 1) (set firsts (p.at / 16) first)
+pub finds_more : (items : List Placed) (firsts : List ℕ) (i : ℕ) (p : Placed) (first : ℕ) → slice_get items i ≡ Some p → p.at / 8 < length firsts →
+    first ≡ min (slice_index firsts (p.at / 8)) i → FindsFirst items i firsts → FindsFirst items (i + 1) (set firsts (p.at / 8) first)
 finds_more items firsts i p first here inside least old =
-    subst (λ (n : ℕ). FindsFirst items (i + 1) (set firsts (p.at / 16) n)) (sym least)
+    subst (λ (n : ℕ). FindsFirst items (i + 1) (set firsts (p.at / 8) n)) (sym least)
     (λ j q less there. finds_each items firsts i p here inside old j q less there (cases_eq j i))
 
 -- an item's block lies in the table
 pub block_inside : (items : List Placed) (code : List ℕ) (i : ℕ) (p : Placed) → StandInOrder items code → slice_get items i ≡ Some p →
-    p.at / 16 < length code / 16 + 1
+    p.at / 8 < length code / 8 + 1
 block_inside items code i p order here = let inside : p.at < length code = order.inside i p here in omega (arith, inside)
 
 pub finds_items : (items : List Placed) (code firsts : List ℕ) (count : ℕ) → StandInOrder items code → length code ≤ 4194304 →
-    length firsts ≡ length code / 16 + 1 → length items ≤ count → FindsFirst items count firsts → FindsItems items firsts
+    length firsts ≡ length code / 8 + 1 → length items ≤ count → FindsFirst items count firsts → FindsItems items firsts
 finds_items items code firsts count order limit len all found = record {
   rising = order.rising;
   limit = let small = count_small items code order in omega (arith, small);
@@ -194,8 +194,8 @@ nowhere_more items j place q there n none k p less e = nowhere_each items j plac
 
 -- no item begins behind the last block
 pub nowhere_past : (items : List Placed) (firsts : List ℕ) (place : ℕ) →
-    ((i : ℕ) (p : Placed) → slice_get items i ≡ Some p → p.at / 16 < length firsts) → length firsts ≤ place / 16 → number_at items place ≡ None
+    ((i : ℕ) (p : Placed) → slice_get items i ≡ Some p → p.at / 8 < length firsts) → length firsts ≤ place / 8 → number_at items place ≡ None
 nowhere_past items firsts place inside past =
     none_from items 0 place (λ k p less e.
-    let low : p.at / 16 < length firsts = inside k p e in
-    λ same. let there : place / 16 < length firsts = subst (λ (x : ℕ). x / 16 < length firsts) same low in absurd (omega arith))
+    let low : p.at / 8 < length firsts = inside k p e in
+    λ same. let there : place / 8 < length firsts = subst (λ (x : ℕ). x / 8 < length firsts) same low in absurd (omega arith))

@@ -46,9 +46,9 @@ number_at items place = number_from 0 items place
 abbrev pub BeginsNowhereBelow : List Placed → ℕ → ℕ → Type 0
 BeginsNowhereBelow items i place = (k : ℕ) (p : Placed) → k < i → slice_get items k ≡ Some p → p.at ≢ place
 
--- A table by blocks of 16 bytes of a code: an item is that of its block's entry, or a later one.
+-- A table by blocks of 8 bytes of a code: an item is that of its block's entry, or a later one.
 pub record FindsItems (items : List Placed) (firsts : List ℕ) : Type 0 where
   pub rising : Rise items
   pub limit : length items < 2 ^ 32
-  pub inside : (i : ℕ) (p : Placed) → slice_get items i ≡ Some p → p.at / 16 < length firsts
-  pub first : (i : ℕ) (p : Placed) → slice_get items i ≡ Some p → slice_index firsts (p.at / 16) ≤ i
+  pub inside : (i : ℕ) (p : Placed) → slice_get items i ≡ Some p → p.at / 8 < length firsts
+  pub first : (i : ℕ) (p : Placed) → slice_get items i ≡ Some p → slice_index firsts (p.at / 8) ≤ i

@@ -3,7 +3,7 @@
 //! A label says for each of 17 names, the 16 registers and the flags, whether it may hold what depends on private data.
 //! [`label_code`] answers the least labels that meet the flow rules: every labelling that meets them has at least these
 //! labels, so a rule that is broken under them is broken under every labelling. [`item_numbers`] finds the item at a place
-//! of the code among those of one block of 16 bytes.
+//! of the code among those of one block of 8 bytes.
 #![tactic(auto)]
 
 mod calls;

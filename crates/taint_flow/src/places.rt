@@ -9,7 +9,7 @@ use std::alloc::Global;
 use std::marker::Model;
 
 /// How many bytes of a code have one entry in the table.
-const BLOCK: usize = 16;
+const BLOCK: usize = 8;
 
 /// A listing's items, and for each block of the code the number of the first item that begins there.
 #[derive(Drop)]

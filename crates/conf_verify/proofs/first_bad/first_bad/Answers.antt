@@ -5,7 +5,7 @@ use Rattle.conf_verify.specs.Search.{BadCall, BadEnd, BadJump, BadResult, BadRet
 use Rattle.conf_verify.proofs.Chains.{bits_next, counted_call, counted_others, result_found, result_fine}
 use Rattle.conf_verify.proofs.Firsts.{first_next, first_stays, first_all}
 use Rattle.conf_verify.proofs.Procedures.{reached_next}
-use Rattle.conf_verify.proofs.Quiet.{quiet_return, quiet_jump, quiet_call, quiet_result, quiet_words, quiet_others, quiet_bits}
+use Rattle.conf_verify.proofs.Quiet.{no_jump, quiet_return, quiet_call, quiet_result, quiet_words, quiet_others, quiet_bits}
 use Rattle.conf_verify.proofs.first_bad.first_bad.Goals as goal
 
 pub loop-i-init : goal.loop-i-init
@@ -37,13 +37,13 @@ overflow_add-first-in-loop-i-2 c = let one = c.one_where-in-loop-i.ensures.most 
 
 pub loop-i-preserved-then-is_quiet : goal.loop-i-preserved-then-is_quiet
 loop-i-preserved-then-is_quiet c =
-    let quiet = c.is_quiet.ensures c.if-is_quiet.true in
+    let quiet = c.is_quiet.ensures.yes c.if-is_quiet.true in
     let few = c.loop-i.invariant.few in
     let few' = c.loop-i.invariant.few_items in
     record {
       end = first_next (BadEnd c.args.items.now) c.loop-i.i c.loop-i.first.end c.first_of-first.result c.is_bad_end.result c.loop-i.invariant.end c.first_of-first.ensures c.is_bad_end.ensures.yes c.is_bad_end.ensures.no;
       return_word = first_stays (BadReturn c.args.items.now) c.loop-i.i c.loop-i.first.return_word c.loop-i.invariant.return_word (quiet_return c.args.items.now c.loop-i.i _ quiet);
-      jump = first_stays (BadJump c.args.items.now) c.loop-i.i c.loop-i.first.jump c.loop-i.invariant.jump (quiet_jump c.args.items.now c.loop-i.i _ quiet);
+      jump = first_next (BadJump c.args.items.now) c.loop-i.i c.loop-i.first.jump c.first_of-first-then-is_quiet.result c.is_bad_jump-bad_jump.result c.loop-i.invariant.jump c.first_of-first-then-is_quiet.ensures c.is_bad_jump-bad_jump.ensures.yes c.is_bad_jump-bad_jump.ensures.no;
       call = first_stays (BadCall c.args.items.now) c.loop-i.i c.loop-i.first.call c.loop-i.invariant.call (quiet_call c.args.items.now c.loop-i.i _ quiet);
       result = first_stays (BadResult c.args.items.now) c.loop-i.i c.loop-i.first.result c.loop-i.invariant.result (quiet_result c.args.items.now c.loop-i.i _ quiet);
       procedures = quiet_words c.args.items.now c.loop-i.i c.loop-i.first.procedures _ c.loop-i-test.true c.loop-i.invariant.procedures quiet;
@@ -66,9 +66,9 @@ loop-i-preserved c =
     record {
       end = first_next (BadEnd c.args.items.now) c.loop-i.i c.loop-i.first.end c.first_of-first.result c.is_bad_end.result c.loop-i.invariant.end c.first_of-first.ensures c.is_bad_end.ensures.yes c.is_bad_end.ensures.no;
       return_word = first_next (BadReturn c.args.items.now) c.loop-i.i c.loop-i.first.return_word c.first_of-first-in-loop-i.result c.is_bad_return.result c.loop-i.invariant.return_word c.first_of-first-in-loop-i.ensures c.is_bad_return.ensures.yes c.is_bad_return.ensures.no;
-      jump = first_next (BadJump c.args.items.now) c.loop-i.i c.loop-i.first.jump c.first_of-first-in-loop-i-2.result c.is_bad_jump-bad_jump.result c.loop-i.invariant.jump c.first_of-first-in-loop-i-2.ensures c.is_bad_jump-bad_jump.ensures.yes c.is_bad_jump-bad_jump.ensures.no;
-      call = first_next (BadCall c.args.items.now) c.loop-i.i c.loop-i.first.call c.first_of-first-in-loop-i-3.result c.is_bad_call.result c.loop-i.invariant.call c.first_of-first-in-loop-i-3.ensures c.is_bad_call.ensures.yes c.is_bad_call.ensures.no;
-      result = first_next (BadResult c.args.items.now) c.loop-i.i c.loop-i.first.result c.first_of-first-in-loop-i-4.result c.is_bad_result.result c.loop-i.invariant.result c.first_of-first-in-loop-i-4.ensures
+      jump = first_stays (BadJump c.args.items.now) c.loop-i.i c.loop-i.first.jump c.loop-i.invariant.jump (no_jump c.args.items.now c.loop-i.i _ (c.is_quiet.ensures.no c.if-is_quiet.false));
+      call = first_next (BadCall c.args.items.now) c.loop-i.i c.loop-i.first.call c.first_of-first-in-loop-i-2.result c.is_bad_call.result c.loop-i.invariant.call c.first_of-first-in-loop-i-2.ensures c.is_bad_call.ensures.yes c.is_bad_call.ensures.no;
+      result = first_next (BadResult c.args.items.now) c.loop-i.i c.loop-i.first.result c.first_of-first-in-loop-i-3.result c.is_bad_result.result c.loop-i.invariant.result c.first_of-first-in-loop-i-3.ensures
           (λ e. result_found c.args.items.now c.loop-i.i _ c.bits_from-bits.result c.loop-i-test.true bits (c.is_bad_result.ensures.yes e))
           (λ e. result_fine c.args.items.now c.loop-i.i _ c.bits_from-bits.result c.loop-i-test.true bits (c.is_bad_result.ensures.no e));
       procedures = counted_call c.args.items.now c.loop-i.i c.loop-i.first.procedures c.one_where.result _ c.loop-i-test.true c.loop-i.invariant.procedures

@@ -4,6 +4,6 @@ use Rattle.taint_flow.proofs.places.first_numbers.Given as goal
 
 abbrev pub invariant-loop-i : goal.invariant-loop-i
 invariant-loop-i l = record {
-  len : length l.firsts.items ≡ length l.code / 16 + 1;
+  len : length l.firsts.items ≡ length l.code / 8 + 1;
   found : FindsFirst l.items l.i l.firsts.items;
 }
