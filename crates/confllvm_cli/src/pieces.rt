@@ -1,6 +1,6 @@
 //! Reading and writing by pieces, to the end or to the first fault.
 
-ghost use Rattle.std.specs.Prelude.{◌≡◌, ◌≤◌, ◌<◌, ◌+◌, ◌++◌, ◌↔◌, IfOk, OnOk, IsErrOf, MatchOption, length, vec_len};
+ghost use Rattle.std.specs.Prelude.{◌≤◌, IfOk, IsErrOf, vec_len};
 
 use cv_io::{LONGEST_LOAD, StoreError};
 use std::alloc::Global;
@@ -17,10 +17,10 @@ pub fn read_all<R: Read + Drop>(
     ensures small { IfOk result (λ bytes. vec_len bytes ≤ LONGEST_LOAD) }
     ensures not_missing { IsErrOf result StoreError.Missing → ⊥ }
 {
+    let longest = LONGEST_LOAD as u64;
     // One byte more, so that the read that finds the end has room.
-    let most = LONGEST_LOAD as u64 + 1;
-    let mut bytes = Vec::with_capacity(alloc, (expected.min(LONGEST_LOAD as u64) + 1) as usize)?;
-    match reader.take(most).read_to_end(&mut bytes) {
+    let mut bytes = Vec::with_capacity(alloc, (expected.min(longest) + 1) as usize)?;
+    match reader.take(longest + 1).read_to_end(&mut bytes) {
         Ok(_) if bytes.len() <= LONGEST_LOAD => Ok(bytes),
         Err(error) if error.kind() == io::ErrorKind::OutOfMemory => Err(StoreError::NoMemory),
         _ => Err(StoreError::Failed),

@@ -204,7 +204,7 @@ fn follow<L: Ledger>(
 }
 
 /// Joins what item `i` leaves into the labels of the items that it leads to, and answers whether the one behind it is to be
-/// looked at next.
+/// looked at next. Then that is flagged as queued and isn't on the stack.
 #[inline(always)]
 fn lead_on<L: Ledger>(
     w: &mut Worklist,

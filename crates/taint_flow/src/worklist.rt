@@ -7,8 +7,8 @@ ghost use Rattle.taint_flow.specs.Worklist.{state_of, state_over, topped, all_pr
 
 use crate::label::Label;
 
-/// A label for each item, whether it is queued, and the stack of the queued items that have had their first turn or need none,
-/// each of which stands there once. The stack has room for all items from the start.
+/// A label for each item, whether it is queued, and the stack of the items that are queued again after their first turn, each
+/// of which stands there once. The stack has room for all items from the start.
 #[derive(Drop)]
 pub struct Worklist {
     pub labels: Vec<Label>,
@@ -27,7 +27,6 @@ pub fn raise(w: &mut Worklist, j: usize, out: Label) -> bool
     ensures takes { TakesIn (Some j) (label_of out.bits) (state_of w.new) }
     ensures stays { StaysBelow (Some j) (label_of out.bits) (state_of w.old) (state_of w.new) }
     ensures room { result ≡ true → length w.new.stack.items < vec_capacity w.new.stack }
-    ensures same { (w.new.stack.items ≡ w.old.stack.items) × (vec_capacity w.new.stack ≡ vec_capacity w.old.stack) }
 {
     let before = w.labels[j].bits;
     let joined = before | out.bits;

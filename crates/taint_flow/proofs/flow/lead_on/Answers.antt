@@ -35,6 +35,14 @@ raise-requires-clause-names g c =
 pub returns-then-falls_through-clause-rises : goal.returns-then-falls_through-clause-rises
 returns-then-falls_through-clause-rises g c = λ below. rises_then _ _ _ (c.join.ensures.rises below) (c.raise.ensures.rises below)
 
+pub returns-then-falls_through-clause-room : goal.returns-then-falls_through-clause-room
+returns-then-falls_through-clause-room g c = λ yes. (
+  next_inside c.args.items.now c.args.i (get_or c.args.items.now c.args.i nothing)
+      (slice_get-get_or c.args.items.now c.args.i nothing c.requires.inside) c.requires.next (c.args.i + 1)
+      (sym (next_if true c.args.i (get_or c.args.items.now c.args.i nothing).item c.if-falls_through.ensures)),
+  c.raise.ensures.room yes,
+)
+
 pub returns-then-falls_through-clause-handed : goal.returns-then-falls_through-clause-handed
 returns-then-falls_through-clause-handed g c =
     let p = get_or c.args.items.now c.args.i nothing in
