@@ -104,13 +104,12 @@ def once(command, status):
     return spent, usage.ru_maxrss / 1e3
 
 
-def in_turn(commands, status=0):
-    """For each command the least time and the peak of memory, run in turn for two seconds, and three times at least."""
+def best(command, status=0):
+    """The least time of the runs that a second has room for, of three at least, and their peak of memory."""
     runs = []
-    end = time.perf_counter() + 2
-    while len(runs) < 3 or time.perf_counter() < end:
-        runs.append([once(command, status) for command in commands])
-    return [(min(spent for spent, _ in each), max(peak for _, peak in each)) for each in zip(*runs)]
+    while len(runs) < 3 or sum(spent for spent, _ in runs) < 1:
+        runs.append(once(command, status))
+    return min(spent for spent, _ in runs), max(peak for _, peak in runs)
 
 
 def written(folder, name, data):
@@ -127,9 +126,8 @@ def time_verify(program, folder):
         times = []
         for size in (65536, 1048576, 4194304):
             code = shape(size)
-            verify = [program, "verify", written(folder, "image", image(code))]
-            dump = [objdump, "-D", "-b", "binary", "-m", "i386:x86-64", written(folder, "code", code)]
-            (ours, peak), (theirs, _) = in_turn([verify, dump])
+            ours, peak = best([program, "verify", written(folder, "image", image(code))])
+            theirs, _ = best([objdump, "-D", "-b", "binary", "-m", "i386:x86-64", written(folder, "code", code)])
             times.append(ours)
             speeds = f"{len(code) / ours / 1e6:.1f} | {len(code) / theirs / 1e6:.1f} | {theirs / ours:.1f}"
             print(f"| {shape.__name__} | {len(code):,} | {speeds} | {peak:.0f} |")
@@ -141,7 +139,7 @@ def time_run(program, folder):
     body = bytes.fromhex("41b800100000 6567498b8000000000 4801c8 656749898000000000 90")
     code = CALL_WORD + bytes.fromhex("40b901000000") + body + b"\xe9" + struct.pack("<i", -len(body) - 5)
     path = written(folder, "loop", image(code))
-    [(spent, _)] = in_turn([[program, "run", path, "100000000"]], status=6)
+    spent, _ = best([program, "run", path, "100000000"], status=6)
     print(f"\n`run`: {100 / spent:.1f} million steps a second")
     if shutil.which("qemu-x86_64") and shutil.which("gcc"):
         source, loop = os.path.join(os.path.dirname(__file__), "loop.c"), os.path.join(folder, "loop.exe")
