@@ -1,3 +1,2 @@
--- Lemmas on lists of files, and on pieces put out one after another.
+-- Lemmas on lists of files.
 mod FilesOf
-pub mod Pieces

@@ -1,1 +1,0 @@
--- Pieces put out one after another.
