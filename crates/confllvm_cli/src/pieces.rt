@@ -1,6 +1,6 @@
 //! Reading and writing by pieces, to the end or to the first fault.
 
-ghost use Rattle.std.specs.Prelude.{◌≤◌, IfOk, IsErrOf, vec_len};
+ghost use Rattle.std.specs.Prelude.{◌≡◌, ◌≤◌, IfOk, IfSome, IsErrOf, vec_len};
 
 use cv_io::{LONGEST_LOAD, StoreError};
 use std::alloc::Global;
@@ -14,6 +14,8 @@ pub fn read_all<R: Read + Drop>(
     reader: R,
     expected: u64,
 ) -> Result<Vec<u8>, StoreError>
+    // What is answered is all that the reader gives, where that is known.
+    ensures all { IfOk result (λ bytes. IfSome (R.remaining reader) (λ given. bytes.items ≡ given)) }
     ensures small { IfOk result (λ bytes. vec_len bytes ≤ LONGEST_LOAD) }
     ensures not_missing { IsErrOf result StoreError.Missing → ⊥ }
 {
