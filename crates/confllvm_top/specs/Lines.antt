@@ -3,8 +3,8 @@ use Rattle.std.specs.Prelude.{◌==◌, ℕ, false, List, [], ◌∷◌, ◌++�
 use Rattle.std.specs.Fmt.{decimal, digits}
 use Rattle.conf_verify.specs.declared.rule.Rule.{Rule}
 use Rattle.conf_verify.specs.Rules.{rule_number}
-use Rattle.x64_alu.specs.declared.fault.FaultKind.{FaultKind}
-use Rattle.x64_alu.specs.declared.fault.FaultKind.TheVariants.{Memory, Undefined, Divide}
+use Rattle.cv_word.specs.declared.fault.FaultKind.{FaultKind}
+use Rattle.cv_word.specs.declared.fault.FaultKind.TheVariants.{Memory, Undefined, Divide}
 
 abbrev pub newline : List ℕ
 newline = 10 ∷ []

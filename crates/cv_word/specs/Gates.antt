@@ -1,18 +1,55 @@
 -- The gates: services at fixed addresses that code may call. Which there are, and what a caller may leave private.
-use Rattle.std.specs.Prelude.{ℕ, ◌+◌, ◌-◌, ◌*◌, ◌/◌, ◌%◌, ◌==◌, ◌&&◌, List, [], ◌∷◌, Option, None, slice_get, nat_le, if◌then◌else◌}
+use Rattle.std.specs.Prelude.{ℕ, ◌+◌, ◌-◌, ◌*◌, ◌/◌, ◌%◌, ◌==◌, ◌&&◌, List, [], ◌∷◌, Option, None, map, slice_get, nat_le, if◌then◌else◌}
 
--- For each gate by its number what a caller may leave private, as in a call word: bits 0 to 3 say it of rdi, rsi, rdx and
--- rcx, and are set for all that the gate doesn't read; bit 4 says that its result in rax is private.
+pub data Gate : Type 0 where
+  -- the run ends; this core ends
+  exit : Gate
+  core_end : Gate
+  -- bytes of the inputs and outputs, public and private
+  pub_in : Gate
+  pub_out : Gate
+  priv_in : Gate
+  priv_out : Gate
+  -- a word of the private input, and one to the private output
+  priv_get : Gate
+  priv_put : Gate
+  -- the heaps, public and private
+  pub_alloc : Gate
+  priv_alloc : Gate
+  pub_free : Gate
+  priv_free : Gate
+  -- private bytes are handed to a releaser, whose answer is public
+  release : Gate
+
+-- the gates by number
+abbrev pub gates : List Gate
+gates =
+    exit ∷ core_end ∷ pub_in ∷ pub_out ∷ priv_in ∷ priv_out ∷ priv_get ∷ priv_put
+    ∷ pub_alloc ∷ priv_alloc ∷ pub_free ∷ priv_free ∷ release ∷ []
+
+-- What a caller may leave private, as in a call word: bits 0 to 3 say it of rdi, rsi, rdx and rcx, and are set for all that
+-- the gate doesn't read; bit 4 says that its result in rax is private.
+abbrev pub bits_of : Gate → ℕ
+bits_of exit = 0x0e
+bits_of core_end = 0x0f
+bits_of pub_in = 0x0c
+bits_of pub_out = 0x0c
+bits_of priv_in = 0x0c
+bits_of priv_out = 0x0c
+bits_of priv_get = 0x1f
+bits_of priv_put = 0x0f
+bits_of pub_alloc = 0x0e
+bits_of priv_alloc = 0x0e
+bits_of pub_free = 0x0e
+bits_of priv_free = 0x0e
+bits_of release = 0x00
+
+-- bit 4 of the bits: the result is private
+abbrev pub result_bit : Gate → ℕ
+result_bit gate = bits_of gate / 16
+
 abbrev pub gate_table : List ℕ
-gate_table =
-    -- exit, core_end
-    0x0e ∷ 0x0f
-    -- pub_in, pub_out, priv_in, priv_out, priv_get, priv_put
-    ∷ 0x0c ∷ 0x0c ∷ 0x0c ∷ 0x0c ∷ 0x1f ∷ 0x0f
-    -- pub_alloc, priv_alloc, pub_free, priv_free
-    ∷ 0x0e ∷ 0x0e ∷ 0x0e ∷ 0x0e
-    -- release
-    ∷ 0x00 ∷ []
+gate_table = map bits_of gates
 
 -- the bits of a gate; there is none above 12
 abbrev pub gate_bits : ℕ → Option ℕ
@@ -25,7 +62,14 @@ first_gate = 0x1000
 abbrev pub gate_address : ℕ → ℕ
 gate_address number = first_gate + 16 * number
 
--- the bits of the gate at a flat address, if one stands there
+-- what a list has for the gate at a flat address, if one stands there
+abbrev pub for_gate_at : {A : Type 0} → List A → ℕ → Option A
+for_gate_at list address =
+    if nat_le first_gate address && ((address - first_gate) % 16 == 0) then slice_get list ((address - first_gate) / 16) else None
+
+-- the gate at a flat address, and its bits
+abbrev pub gate_at : ℕ → Option Gate
+gate_at address = for_gate_at gates address
+
 abbrev pub gate_bits_at : ℕ → Option ℕ
-gate_bits_at address =
-    if nat_le first_gate address && ((address - first_gate) % 16 == 0) then gate_bits ((address - first_gate) / 16) else None
+gate_bits_at address = for_gate_at gate_table address

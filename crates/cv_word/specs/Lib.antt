@@ -1,6 +1,9 @@
--- What every crate above shares: words, the memory map, the gates' bits, arithmetic and flags.
+-- What every crate above shares: words, the memory map, memory, arithmetic and flags, heaps, the gates and the gate step.
 pub mod Words
 pub mod Arithmetic
 pub mod MemoryMap
+pub mod Memory
+pub mod Marks
 pub mod Gates
 pub mod Heap
+pub mod GateStep

@@ -4,6 +4,7 @@
 //! contracts here are equations with the definitions of `specs/`, which the crates above cite too.
 #![tactic(auto)]
 
+mod fault;
 mod gates;
 mod memory_map;
 mod no_memory;
@@ -11,6 +12,7 @@ mod registers;
 mod steps;
 mod words;
 
+pub use fault::FaultKind;
 pub use gates::gate_bits;
 pub use memory_map::{CODE_BASE, PRIVATE_BASE, PUBLIC_BASE};
 pub use no_memory::NoMemory;

@@ -1,7 +1,7 @@
 //! Words of 8 bytes: a taint byte, a kind byte and the prefix of six bytes.
 
 ghost use Rattle.std.specs.Prelude.{◌≡◌, ◌<◌, ◌∷◌, List, ℕ, take, drop, IfSome, IfNone};
-ghost use Rattle.magic_words.specs.MagicWords.{BeginsWord};
+ghost use Rattle.magic_words.specs.MagicWords.{BeginsWord, call_word, return_word};
 ghost use Rattle.magic_words.specs.declared.word.Word.{Word};
 
 /// The kind byte of a call word.
@@ -22,7 +22,7 @@ pub enum Word {
 /// The bytes of the call word with these bits, which are below 32.
 pub fn call_word(bits: u8, prefix: [u8; 6]) -> [u8; 8]
     requires { bits < 32 }
-    ensures { result ≡ bits ∷ 0x11 ∷ prefix }
+    ensures { result ≡ call_word bits prefix }
 {
     let [a, b, c, d, e, f] = prefix;
     [bits, CALL, a, b, c, d, e, f]
@@ -31,7 +31,7 @@ pub fn call_word(bits: u8, prefix: [u8; 6]) -> [u8; 8]
 /// The bytes of the return word with this bit, which is below 2.
 pub fn return_word(bit: u8, prefix: [u8; 6]) -> [u8; 8]
     requires { bit < 2 }
-    ensures { result ≡ bit ∷ 0x22 ∷ prefix }
+    ensures { result ≡ return_word bit prefix }
 {
     let [a, b, c, d, e, f] = prefix;
     [bit, RETURN, a, b, c, d, e, f]

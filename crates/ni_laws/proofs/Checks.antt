@@ -17,9 +17,10 @@ use Rattle.code_sweep.specs.Units.{inverse}
 use Rattle.code_sweep.specs.declared.item.Placed.{Placed}
 use Rattle.taint_flow.specs.Label.{Label}
 use Rattle.taint_flow.specs.Flow.{Labelling, address}
-use Rattle.x64_alu.specs.declared.fault.FaultKind.{FaultKind}
-use Rattle.x64_alu.specs.declared.fault.FaultKind.TheVariants as fault
-use Rattle.x64_alu.specs.Memory.{Memory, flat_loaded, is_code_word, is_segment_word}
+use Rattle.cv_word.specs.declared.fault.FaultKind.{FaultKind}
+use Rattle.cv_word.specs.declared.fault.FaultKind.TheVariants as fault
+use Rattle.cv_word.specs.Memory.{Memory, is_code_word, is_segment_word}
+use Rattle.two_segments.specs.Access.{flat_loaded}
 use Rattle.x64_alu.specs.CoreStep.{Effect, goes, faults, value, put, flagged, moved_to, holds, alu_result, alu_flags, goes_on, after_comparison, target_of, executed, after_fetch, instruction_in, core_step}
 use Rattle.ni_laws.specs.Agreement.{HasSixteen, EqualUnder, Equal, inside_label, InUnit, Stage, stage_offset, Holds, has_compared, WordStands, AtStage, Standing, at_item, at_raise, at_stage, at_gate, check_of, memory}
 use Rattle.ni_laws.specs.Agreement as at

@@ -22,7 +22,7 @@ use Rattle.conf_verify.specs.Verdict.{IsImage, IsAcceptedImage}
 use Rattle.x64_machine.specs.declared.outcome.Outcome.TheVariants.{Running}
 use Rattle.x64_machine.specs.Run.{run, view}
 use Rattle.x64_machine.specs.Start.{Shared, Secret, start_registers, start_cores, start}
-use Rattle.x64_alu.specs.Memory.{padded}
+use Rattle.cv_word.specs.Memory.{padded}
 use Rattle.cv_word.specs.MemoryMap.{first_mapped}
 use Rattle.ni_laws.specs.Agreement.{HasSixteen, Equal, AtItem, at_item, CoresAlike, agree}
 use Rattle.ni_laws.proofs.Items.{Facts, found, nowhere, search_items}

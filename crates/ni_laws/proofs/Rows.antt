@@ -19,9 +19,10 @@ use Rattle.code_sweep.specs.Listing.{StandsAlone}
 use Rattle.taint_flow.specs.Label.{Label, flags, taint, set, set_reg, segment_taint, left_by}
 use Rattle.taint_flow.specs.Flow.{instruction_falls, instruction_target, memory_of, base_is_private, instruction_stores_private, shows_private, instruction_branches_on_private, instruction_divides_private}
 use Rattle.taint_flow.specs.Calls.{instruction_is_call}
-use Rattle.x64_alu.specs.declared.fault.FaultKind.{FaultKind}
-use Rattle.x64_alu.specs.declared.fault.FaultKind.TheVariants as fault
-use Rattle.x64_alu.specs.Memory.{Memory, loaded, stored}
+use Rattle.cv_word.specs.declared.fault.FaultKind.{FaultKind}
+use Rattle.cv_word.specs.declared.fault.FaultKind.TheVariants as fault
+use Rattle.cv_word.specs.Memory.{Memory}
+use Rattle.two_segments.specs.Access.{loaded, stored}
 use Rattle.x64_alu.specs.CoreStep.{Effect, goes, faults, value, put, put_where, flagged, moved_to, holds, alu_result, alu_flags, shift_result, with_low_byte, byte_count, offset_of, goes_on, after_division, after_load, load_into, after_store, target_of, executed}
 use Rattle.x64_alu.specs.CoreStep as step
 use Rattle.ni_laws.specs.Agreement.{EqualUnder, memory}

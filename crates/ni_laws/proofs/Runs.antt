@@ -13,7 +13,8 @@ use Rattle.x64_decode.specs.declared.instr.Seg.TheVariants.{Fs, Gs}
 use Rattle.x64_decode.specs.declared.instr.Instr.{Instr}
 use Rattle.x64_decode.specs.declared.instr.Instr.TheVariants.{Idiv, Load, LoadZx8, LoadSx8, LoadSx32, Store, CmpFlat, CallR10}
 use Rattle.x64_decode.specs.declared.instr.Instr.TheVariants as instr
-use Rattle.x64_alu.specs.Memory.{Memory, stored, flat_stored, is_segment_word}
+use Rattle.cv_word.specs.Memory.{Memory, is_segment_word}
+use Rattle.two_segments.specs.Access.{stored, flat_stored}
 use Rattle.x64_alu.specs.CoreStep.{Effect, goes, faults, value, after_division, after_load, after_store, after_comparison, after_push, executed, after_fetch, core_step, instruction_in, offset_of}
 use Rattle.code_sweep.specs.declared.item.Placed.{Placed}
 use Rattle.taint_flow.specs.Flow.{Labelling}

@@ -17,8 +17,9 @@ use Rattle.x64_decode.specs.declared.instr.AluOp.TheVariants as alu
 use Rattle.x64_decode.specs.declared.instr.Instr.{Instr}
 use Rattle.x64_decode.specs.declared.instr.Instr.TheVariants.{Idiv, Mov, AluImm, Load, LoadZx8, LoadSx8, LoadSx32, Store, CmpFlat, JmpR10, CallR10, Jmp, Ud2}
 use Rattle.x64_decode.specs.declared.instr.Instr.TheVariants as instr
-use Rattle.x64_alu.specs.declared.fault.FaultKind.TheVariants as fault
-use Rattle.x64_alu.specs.Memory.{Memory, loaded, flat_stored}
+use Rattle.cv_word.specs.declared.fault.FaultKind.TheVariants as fault
+use Rattle.cv_word.specs.Memory.{Memory}
+use Rattle.two_segments.specs.Access.{loaded, flat_stored}
 use Rattle.x64_alu.specs.CoreStep.{Effect, faults, value, put, flagged, moved_to, alu_result, alu_flags, after_load, after_push, calls, target_of, executed, after_fetch, core_step, instruction_in, offset_of}
 use Rattle.magic_words.specs.MagicWords.{call_word, return_word}
 use Rattle.code_sweep.specs.declared.item.Item.{Item}

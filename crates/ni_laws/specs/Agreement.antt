@@ -13,7 +13,7 @@ use Rattle.code_sweep.specs.declared.item.Item.TheVariants.{ReturnUnit, CallUnit
 use Rattle.code_sweep.specs.declared.item.Placed.{Placed}
 use Rattle.taint_flow.specs.Label.{Label, flags, taint, set, set_reg, entry_label}
 use Rattle.taint_flow.specs.Flow.{Labelling, address}
-use Rattle.x64_alu.specs.Memory.{Memory}
+use Rattle.cv_word.specs.Memory.{Memory}
 use Rattle.x64_alu.specs.CoreStep.{value}
 use Rattle.conf_verify.specs.Rules.{is_word}
 use Rattle.x64_machine.specs.declared.outcome.Outcome.{Outcome}

@@ -13,7 +13,6 @@ use Rattle.x64_decode.specs.declared.instr.Reg.TheVariants as reg
 use Rattle.x64_decode.specs.declared.instr.Cond.{Cond}
 use Rattle.x64_decode.specs.declared.instr.Cond.TheVariants as cond
 use Rattle.x64_decode.specs.declared.instr.Width.{Width}
-use Rattle.x64_decode.specs.declared.instr.Width.TheVariants.{B1, B4, B8}
 use Rattle.x64_decode.specs.declared.instr.Mem.{Mem}
 use Rattle.x64_decode.specs.declared.instr.AluOp.{AluOp}
 use Rattle.x64_decode.specs.declared.instr.AluOp.TheVariants as alu
@@ -21,9 +20,10 @@ use Rattle.x64_decode.specs.declared.instr.ShiftOp.{ShiftOp}
 use Rattle.x64_decode.specs.declared.instr.ShiftOp.TheVariants as shift
 use Rattle.x64_decode.specs.declared.instr.Instr.{Instr}
 use Rattle.x64_decode.specs.declared.instr.Instr.TheVariants.{Mov, Alu, Test, Imul, Not, Neg, Idiv, Cqo, ShiftImm, ShiftCl, Movsxd, Movzx8, Movsx8, Setcc, Cmov, MovImm32, MovImm64, MovImmS, AluImm, Load, LoadZx8, LoadSx8, LoadSx32, Store, CmpFlat, JmpR10, CallR10, Call, Jmp, Jcc, Ud2, Nop}
-use Rattle.x64_alu.specs.declared.fault.FaultKind.{FaultKind}
-use Rattle.x64_alu.specs.declared.fault.FaultKind.TheVariants as fault
-use Rattle.x64_alu.specs.Memory.{Memory, loaded, stored, flat_loaded, flat_stored}
+use Rattle.cv_word.specs.declared.fault.FaultKind.{FaultKind}
+use Rattle.cv_word.specs.declared.fault.FaultKind.TheVariants as fault
+use Rattle.cv_word.specs.Memory.{Memory}
+use Rattle.two_segments.specs.Access.{byte_count, loaded, stored, flat_loaded, flat_stored}
 
 -- a step goes on with new registers and a new memory, or it faults and changes nothing
 pub data Effect : Type 0 where
@@ -95,12 +95,6 @@ shift_result shift.Sar a count = shifted_signed a count
 -- the low 8 bits of a word replaced by a bit
 abbrev pub with_low_byte : Bool → ℕ → ℕ
 with_low_byte bit a = a / 256 * 256 + (if bit then 1 else 0)
-
--- how many bytes a store writes
-abbrev pub byte_count : Width → ℕ
-byte_count B1 = 1
-byte_count B4 = 4
-byte_count B8 = 8
 
 -- the offset that a memory operand names
 abbrev pub offset_of : Registers → Mem → ℕ

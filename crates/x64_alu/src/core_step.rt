@@ -4,17 +4,17 @@ ghost use Rattle.std.specs.Prelude.{◌≡◌, ◌%◌, ◌^◌, length};
 ghost use Rattle.cv_word.specs.Words.{sign_extended};
 ghost use Rattle.cv_word.specs.MemoryMap.{is_in_code};
 ghost use Rattle.cv_word.specs.Arithmetic.{divided};
-ghost use Rattle.x64_alu.specs.CoreStep.{StepsTo, core_step, executed, calls, load_into, after_store, after_comparison, after_division, shift_result, byte_count, value, offset_of};
-ghost use Rattle.x64_alu.specs.Memory.{Memory, stored, flat_loaded};
+ghost use Rattle.x64_alu.specs.CoreStep.{StepsTo, core_step, executed, calls, load_into, after_store, after_comparison, after_division, shift_result, value, offset_of};
+ghost use Rattle.cv_word.specs.Memory.{Memory};
+ghost use Rattle.two_segments.specs.Access.{byte_count, stored, flat_loaded};
 
 use crate::arithmetic::{alu, bits, holds, multiply, negate, shift, signs, subtract};
 use crate::division::divide;
-use crate::fault::FaultKind;
 use crate::registers::{
     get, low_byte, low_half, offset, set, set_flags, set_result, set_with_flags, target, widen,
 };
-use crate::two_segments::Segments;
-use cv_word::{CODE_BASE, Flags, Registers, sext};
+use cv_word::{CODE_BASE, FaultKind, Flags, Registers, sext};
+use two_segments::Segments;
 use x64_decode::{Instr, Mem, Reg, ShiftOp, Width, decode};
 
 /// The flags after a multiplication, a division or a shift.

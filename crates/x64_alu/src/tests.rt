@@ -1,9 +1,10 @@
 //! Values and flags that a processor gave for the same operands, worked accesses, and steps.
 
 use super::*;
-use cv_word::{Flags, Registers};
+use cv_word::{FaultKind, Flags, Registers};
 use std::process::Abort;
 use std::test::Fail;
+use two_segments::Segments;
 use x64_decode::{AluOp, Cond, Instr, Reg, Seg, ShiftOp, Width};
 
 const SIGN: u64 = 0x8000_0000_0000_0000;
@@ -354,55 +355,6 @@ fn conditions(rt: HostRuntime) {
             );
         }
     }
-}
-
-#[test]
-fn mapped_offsets(rt: HostRuntime) -> Result<(), Fail> {
-    let segs = Segments::new(rt.alloc(), 65536, b"", b"ab", b"cd")?;
-    for (seg, off, width, value) in [
-        (Seg::Fs, 4095, Width::B1, None),
-        (Seg::Fs, 4096, Width::B1, Some(0x61)),
-        (Seg::Gs, 4096, Width::B4, Some(0x6463)),
-        (Seg::Gs, 4092, Width::B8, None),
-        (Seg::Fs, 65535, Width::B1, Some(0)),
-        (Seg::Fs, 65536, Width::B1, None),
-        (Seg::Fs, 65528, Width::B8, Some(0)),
-        (Seg::Fs, 65529, Width::B8, None),
-        (Seg::Gs, 0xffff_ffff, Width::B8, None),
-    ] {
-        assert_eq!(rt; segs.read(seg, off, width), value);
-    }
-    Ok(())
-}
-
-#[test]
-fn writes_and_flat_addresses(rt: HostRuntime) -> Result<(), Fail> {
-    let code = [0x90u8; 12];
-    let mut segs = Segments::new(rt.alloc(), 65536, &code, b"", b"")?;
-    assert_eq!(rt;
-        segs.write(Seg::Fs, 4096, Width::B8, 0x1122_3344_5566_7788),
-        true
-    );
-    assert_eq!(rt; segs.write(Seg::Fs, 4097, Width::B1, 0xfff), true);
-    assert_eq!(rt; segs.write(Seg::Gs, 65532, Width::B4, 0xaa_bbcc_ddee), true);
-    assert_eq!(rt; segs.write(Seg::Gs, 65533, Width::B4, 1), false);
-    assert_eq!(rt; segs.flat_write(0x2_0000_fff9, 1), false);
-    assert_eq!(rt; segs.flat_write(0x1_0000, 1), false);
-    assert_eq!(rt; segs.flat_write(0x4_0000_2000, 7), true);
-    for (at, value) in [
-        (0x1_0000, Some(0x9090_9090_9090_9090)),
-        (0x1_0004, Some(0x9090_9090_9090_9090)),
-        (0x1_0005, None),
-        (0x1000, None),
-        (0x2_0000_0fff, None),
-        (0x2_0000_1000, Some(0x1122_3344_5566_ff88)),
-        (0x4_0000_fff8, Some(0xbbcc_ddee_0000_0000)),
-        (0x4_0000_2000, Some(7)),
-        (0xffff_ffff_ffff_ffff, None),
-    ] {
-        assert_eq!(rt; segs.flat_read(at), value);
-    }
-    Ok(())
 }
 
 fn core(stack: u64) -> Registers {

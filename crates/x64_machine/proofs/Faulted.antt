@@ -4,8 +4,8 @@ use Rattle.std.specs.Prelude.{slice_get, if◌then◌else◌}
 use Rattle.std.proofs.lemmas.List.{set-get_or}
 use Rattle.std.proofs.lemmas.Option.{slice_get-get_or}
 use Rattle.cv_word.specs.declared.registers.Registers.{Registers}
-use Rattle.x64_alu.specs.declared.fault.FaultKind.{FaultKind}
-use Rattle.x64_alu.specs.Memory.{Memory}
+use Rattle.cv_word.specs.declared.fault.FaultKind.{FaultKind}
+use Rattle.cv_word.specs.Memory.{Memory}
 use Rattle.x64_alu.specs.CoreStep.{Effect, goes, faults, core_step, StepsTo}
 use Rattle.x64_machine.specs.Run.{Core, Configuration, after_step, step_core}
 use Rattle.x64_machine.specs.declared.outcome.Outcome.{Outcome}

@@ -5,7 +5,8 @@ pub use Rattle.cv_word.specs.Gates
 pub use Rattle.cv_word.specs.Arithmetic
 pub use Rattle.x64_decode.specs.Spelling
 pub use Rattle.x64_decode.specs.Reading
-pub use Rattle.x64_alu.specs.Memory
+pub use Rattle.cv_word.specs.Memory
+pub use Rattle.two_segments.specs.Access
 pub use Rattle.x64_alu.specs.CoreStep
 pub use Rattle.magic_words.specs.MagicWords
 pub use Rattle.code_sweep.specs.Units

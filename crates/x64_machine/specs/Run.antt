@@ -1,6 +1,6 @@
 -- Configurations, the step of a core, runs over a schedule, and the view of a configuration. No taint occurs here.
 use Rattle.std.specs.Prelude.{ℕ, Bool, true, false, List, [], ◌∷◌, Option, Some, None, map, slice_get, slice_set, if◌then◌else◌}
-use Rattle.x64_alu.specs.Memory.{Memory}
+use Rattle.cv_word.specs.Memory.{Memory}
 use Rattle.x64_alu.specs.CoreStep.{Effect, goes, faults, core_step}
 use Rattle.x64_machine.specs.declared.cores.Core as cores
 use Rattle.x64_machine.specs.declared.outcome.Outcome.{Outcome}

@@ -5,7 +5,7 @@ use Rattle.cv_word.specs.Arithmetic.{no_flags}
 use Rattle.cv_word.specs.declared.registers.Registers.{Registers}
 use Rattle.x64_decode.specs.Spelling.{number}
 use Rattle.x64_decode.specs.declared.instr.Reg.TheVariants.{Rsp}
-use Rattle.x64_alu.specs.Memory.{start_memory}
+use Rattle.cv_word.specs.Memory.{start_memory}
 use Rattle.image_form.specs.Image.{Image}
 use Rattle.x64_machine.specs.declared.outcome.Outcome.TheVariants.{Running}
 use Rattle.x64_machine.specs.Run.{Core, Configuration}

@@ -3,7 +3,7 @@ use Rattle.std.proofs.Common.{◌≡◌, ℕ, ◌+◌, ◌≤◌, List, ◌++◌
 use Rattle.std.proofs.lemmas.Grind.{common_steps}
 use Rattle.std.proofs.lemmas.List.{take-replicate, drop-replicate}
 use Rattle.cv_word.specs.Words.{spliced}
-use Rattle.x64_alu.specs.Memory.{padded}
+use Rattle.cv_word.specs.Memory.{padded}
 
 pub spliced_zeros : (before size : ℕ) (bytes : List ℕ) → before + length bytes ≤ size
     → spliced (replicate size 0) before bytes ≡ padded before size bytes

@@ -2,12 +2,12 @@
 //!
 //! A segment is a buffer of all its bytes, by offset. An access that leaves its segment's mapped offsets is refused.
 
-ghost use Rattle.std.specs.Prelude.{◌≡◌, ◌+◌, ◌-◌, ◌^◌, ◌<◌, ◌≤◌, ◌&&◌, nat_le, length, take, drop, replicate, is_some, IfOk};
+ghost use Rattle.std.specs.Prelude.{◌≡◌, ◌+◌, ◌-◌, ◌^◌, ◌<◌, ◌≤◌, ◌&&◌, true, nat_le, length, take, drop, replicate, is_some, IfOk};
 ghost use Rattle.std.specs.Option.{unwrap_or};
 ghost use Rattle.cv_word.specs.Words.{IsWidth, little_endian, spliced};
 ghost use Rattle.cv_word.specs.MemoryMap.{code_base, is_mapped};
-ghost use Rattle.x64_alu.specs.Memory.{loaded, stored, flat_loaded, flat_stored, padded, start_memory};
-ghost use Rattle.x64_alu.specs.CoreStep.{byte_count};
+ghost use Rattle.cv_word.specs.Memory.{is_good, items_at, padded, range_read, range_written, start_memory};
+ghost use Rattle.two_segments.specs.Access.{byte_count, flat_loaded, flat_stored, loaded, range_of, stored};
 
 use cv_word::{CODE_BASE, NoMemory, PRIVATE_BASE, PUBLIC_BASE, le32, le64, put_le};
 use std::alloc::Global;
@@ -27,11 +27,11 @@ pub struct Segments<'a> {
 }
 
 impl<'a> Model for Segments<'a> {
-    ghost use Rattle.x64_alu.specs.Memory.{Memory};
+    ghost use Rattle.cv_word.specs.Memory.{Memory};
 
     ghost Value = { Memory };
 
-    ghost use Rattle.x64_alu.specs.Buffers.{memory_of, IsBuffers};
+    ghost use Rattle.two_segments.specs.Buffers.{memory_of, IsBuffers};
 
     ghost view = { memory_of };
 
@@ -81,7 +81,7 @@ impl<'a> Segments<'a> {
     }
 
     /// The number in the bytes from an offset of a segment, lowest byte first. None exactly where one is unmapped.
-    #[tactic(auto, unfolding(crate::specs::Memory::loaded))]
+    #[tactic(auto, unfolding(crate::specs::Access::loaded))]
     pub fn read(&self, seg: Seg, off: u32, w: Width) -> Option<u64>
         ensures { result ≡ loaded self.now seg off (byte_count w) }
     {
@@ -98,7 +98,7 @@ impl<'a> Segments<'a> {
 
     /// Writes the low bytes of `v` from an offset of a segment, lowest byte first. False exactly where one is unmapped;
     /// then nothing changes.
-    #[tactic(auto, unfolding(crate::specs::Memory::stored))]
+    #[tactic(auto, unfolding(crate::specs::Access::stored))]
     pub fn write(&mut self, seg: Seg, off: u32, w: Width, v: u64) -> bool
         ensures mapped { result ≡ is_some (stored self.old seg off (byte_count w) v) }
         ensures after { self.new ≡ unwrap_or (stored self.old seg off (byte_count w) v) self.old }
@@ -115,9 +115,38 @@ impl<'a> Segments<'a> {
         }
     }
 
+    /// Whether so many bytes from an offset are all mapped, or there are none. That is the same in both segments.
+    pub fn is_good(&self, at: u64, len: u64) -> bool
+        ensures { (seg : Seg) → result ≡ is_good self.now.size (range_of seg at len) }
+    {
+        len == 0 || mapped_range(self.size as u64, at, len)
+    }
+
+    /// So many bytes of a segment from an offset on, which are all mapped, or none.
+    pub fn range(&self, seg: Seg, at: u64, len: u64) -> &[u8]
+        requires { is_good self.now.size (range_of seg at len) ≡ true }
+        ensures { result.now ≡ range_read self.now (range_of seg at len) }
+    {
+        match seg {
+            Seg::Fs => bytes_at(&self.public, at, len),
+            Seg::Gs => bytes_at(&self.private, at, len),
+        }
+    }
+
+    /// Writes bytes to a segment from an offset on, where they are all mapped, or none.
+    pub fn put_range(&mut self, seg: Seg, at: u64, bytes: &[u8])
+        requires { is_good self.old.size (range_of seg at (length bytes.now)) ≡ true }
+        ensures { self.new ≡ range_written self.old (range_of seg at (length bytes.now)) bytes.now }
+    {
+        match seg {
+            Seg::Fs => put_bytes(&mut self.public, at, bytes),
+            Seg::Gs => put_bytes(&mut self.private, at, bytes),
+        }
+    }
+
     /// The 8 bytes at a flat address, lowest byte first. None exactly where they don't lie in one region that can be
     /// read: the code or a segment.
-    #[tactic(auto, unfolding(crate::specs::Memory::loaded, crate::specs::Memory::flat_loaded))]
+    #[tactic(auto, unfolding(crate::specs::Access::loaded, crate::specs::Access::flat_loaded))]
     pub fn flat_read(&self, at: u64) -> Option<u64>
         ensures { result ≡ flat_loaded self.now at }
     {
@@ -134,7 +163,7 @@ impl<'a> Segments<'a> {
 
     /// Writes `v` as 8 bytes at a flat address, lowest byte first. False exactly where they don't lie in one segment;
     /// then nothing changes.
-    #[tactic(auto, unfolding(crate::specs::Memory::stored, crate::specs::Memory::flat_stored))]
+    #[tactic(auto, unfolding(crate::specs::Access::stored, crate::specs::Access::flat_stored))]
     pub fn flat_write(&mut self, at: u64, v: u64) -> bool
         ensures mapped { result ≡ is_some (flat_stored self.old at v) }
         ensures after { self.new ≡ unwrap_or (flat_stored self.old at v) self.old }
@@ -177,6 +206,34 @@ fn place(out: &mut [u8], at: usize, bytes: &[u8])
 {
     let end = at + bytes.len();
     out[at..end].copy_from_slice(bytes);
+}
+
+/// Whether so many bytes from an offset are all mapped in a segment of that size.
+fn mapped_range(size: u64, at: u64, len: u64) -> bool
+    ensures { result ≡ is_mapped size at len }
+{
+    FIRST as u64 <= at && at <= size && len <= size - at
+}
+
+/// So many bytes from a place on, or none.
+fn bytes_at(bytes: &[u8], at: u64, len: u64) -> &[u8]
+    requires { 0 < len → at + len ≤ length bytes.now }
+    ensures { result.now ≡ items_at bytes.now at len }
+{
+    if len == 0 {
+        return &bytes[..0];
+    }
+    &bytes[at as usize..(at + len) as usize]
+}
+
+/// Writes bytes from a place on, or none.
+fn put_bytes(out: &mut [u8], at: u64, bytes: &[u8])
+    requires { 0 < length bytes.now → at + length bytes.now ≤ length out.old }
+    ensures { out.new ≡ spliced out.old at bytes.now }
+{
+    if !bytes.is_empty() {
+        place(out, at as usize, bytes);
+    }
 }
 
 /// How many bytes an access of that width has.

@@ -1,7 +1,7 @@
 -- The memory that the buffers of a program hold.
 use Rattle.std.specs.Prelude.{◌≡◌, ◌≤◌, length}
-use Rattle.x64_alu.specs.Memory.{Memory}
-use Rattle.x64_alu.specs.declared.two_segments.Segments.TheInside.{Inside}
+use Rattle.cv_word.specs.Memory.{Memory}
+use Rattle.two_segments.specs.declared.segments.Segments.TheInside.{Inside}
 
 abbrev pub memory_of : Inside → Memory
 memory_of s = record { size = s.size; code = s.code.now; public = s.public.items; private = s.private.items }

@@ -1,17 +1,19 @@
--- The memory that all cores share: the code, and two segments that never meet.
-use Rattle.std.specs.Prelude.{ℕ, ◌+◌, ◌-◌, Bool, ◌&&◌, List, ◌++◌, length, replicate, take, drop, Option, Some, None, nat_le, if◌then◌else◌}
+-- Loads and stores of numbers in the two segments, by a segment's offsets and by flat addresses.
+use Rattle.std.specs.Prelude.{ℕ, ◌-◌, List, take, drop, Option, Some, None, if◌then◌else◌}
 use Rattle.cv_word.specs.Words.{little_endian, word_bytes, spliced}
-use Rattle.cv_word.specs.MemoryMap.{code_base, public_base, private_base, first_mapped, is_mapped}
+use Rattle.cv_word.specs.MemoryMap.{code_base, public_base, private_base, is_mapped}
+use Rattle.cv_word.specs.Memory.{Memory, Range, bytes_of, with_bytes, is_code_word, is_segment_word}
+use Rattle.cv_word.specs.declared.registers.Taint.{Taint}
+use Rattle.cv_word.specs.declared.registers.Taint.TheVariants.{Pub, Priv}
 use Rattle.x64_decode.specs.declared.instr.Seg.{Seg}
 use Rattle.x64_decode.specs.declared.instr.Seg.TheVariants.{Fs, Gs}
+use Rattle.x64_decode.specs.declared.instr.Width.{Width}
+use Rattle.x64_decode.specs.declared.instr.Width.TheVariants.{B1, B4, B8}
 
--- The code, and the bytes of each segment by offset. Both segments have one size in bytes; which offsets are mapped is
--- said by that size alone, and never by a list's length.
-pub record Memory : Type 0 where
-  pub size : ℕ
-  pub code : List ℕ
-  pub public : List ℕ
-  pub private : List ℕ
+-- fs is the public segment, and gs the private one
+abbrev pub taint_of : Seg → Taint
+taint_of Fs = Pub
+taint_of Gs = Priv
 
 -- the bytes of a segment, by offset
 abbrev pub segment : Seg → Memory → List ℕ
@@ -22,6 +24,16 @@ abbrev pub with_segment : Seg → List ℕ → Memory → Memory
 with_segment Fs bytes m = record m { public = bytes }
 with_segment Gs bytes m = record m { private = bytes }
 
+-- so many bytes of a segment, from an offset on
+abbrev pub range_of : Seg → ℕ → ℕ → Range
+range_of seg at len = record { segment = taint_of seg; at = at; len = len }
+
+-- how many bytes an access of that width has
+abbrev pub byte_count : Width → ℕ
+byte_count B1 = 1
+byte_count B4 = 4
+byte_count B8 = 8
+
 -- the number in so many bytes from an offset of a segment, where all of them are mapped
 unfoldable pub loaded : Memory → Seg → ℕ → ℕ → Option ℕ
 loaded m seg offset width =
@@ -31,13 +43,6 @@ loaded m seg offset width =
 unfoldable pub stored : Memory → Seg → ℕ → ℕ → ℕ → Option Memory
 stored m seg offset width v =
     if is_mapped m.size offset width then Some (with_segment seg (spliced (segment seg m) offset (word_bytes width v)) m) else None
-
--- the 8 bytes at a flat address lie in the code, or are mapped in the segment with that base
-abbrev pub is_code_word : Memory → ℕ → Bool
-is_code_word m address = nat_le code_base address && nat_le (address + 8) (code_base + length m.code)
-
-abbrev pub is_segment_word : Memory → ℕ → ℕ → Bool
-is_segment_word m base address = nat_le base address && is_mapped m.size (address - base) 8
 
 -- the 8 bytes at a flat address, in any region that can be read
 unfoldable pub flat_loaded : Memory → ℕ → Option ℕ
@@ -53,12 +58,3 @@ flat_stored m address v =
     if is_segment_word m public_base address then stored m Fs (address - public_base) 8 v else
     if is_segment_word m private_base address then stored m Gs (address - private_base) 8 v else
     None
-
--- so many zeros, some bytes, and zeros up to a size
-unfoldable pub padded : ℕ → ℕ → List ℕ → List ℕ
-padded before size bytes = replicate before 0 ++ bytes ++ replicate (size - (before + length bytes)) 0
-
--- the memory at the start: in each segment the start bytes lie from the first mapped offset on, and all else is 0
-abbrev pub start_memory : ℕ → List ℕ → List ℕ → List ℕ → Memory
-start_memory size code public private =
-    record { size = size; code = code; public = padded first_mapped size public; private = padded first_mapped size private }

@@ -1,7 +1,7 @@
 use Rattle.std.proofs.Common.{rules, ◌≡◌, ◌∙◌, ap, List, ℕ, length}
 use Rattle.cv_word.specs.Words.{spliced}
-use Rattle.x64_alu.proofs.Padding.{kept, spliced_zeros}
-use Rattle.x64_alu.proofs.two_segments.fill.Goals as goal
+use Rattle.two_segments.proofs.Padding.{kept, spliced_zeros}
+use Rattle.two_segments.proofs.segments.fill.Goals as goal
 
 pub returns-clause-bytes : goal.returns-clause-bytes
 returns-clause-bytes c =

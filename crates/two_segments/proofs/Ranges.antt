@@ -1,0 +1,13 @@
+-- Ranges of a list.
+use Rattle.std.proofs.Common.{◌≡◌, ℕ, ◌+◌, ◌-◌, ◌<◌, ◌≤◌, List, [], length, take, drop, refl, sym, ◌∙◌, ap, arith}
+use Rattle.cv_word.specs.Memory.{items_at}
+use Rattle.cv_word.proofs.Items.{items_at-inside}
+
+pub no_items : (xs : List ℕ) (at count : ℕ) → count ≡ 0 → [] ≡ items_at xs at count
+unfolding items_at
+no_items xs at count none = rw none refl
+
+pub sliced : (xs : List ℕ) (at count : ℕ) → at + count ≤ length xs → take (at + count - at) (drop at xs) ≡ items_at xs at count
+sliced xs at count h =
+    let e : at + count - at ≡ count = omega arith in
+    ap (λ (n : ℕ). take n (drop at xs)) e ∙ sym (items_at-inside count xs at h)
