@@ -1,48 +1,34 @@
 -- The gates: services at fixed addresses that code may call. Which there are, and what a caller may leave private.
 use Rattle.std.specs.Prelude.{ℕ, ◌+◌, ◌-◌, ◌*◌, ◌/◌, ◌%◌, ◌==◌, ◌&&◌, List, [], ◌∷◌, Option, None, map, slice_get, nat_le, if◌then◌else◌}
-
-pub data Gate : Type 0 where
-  -- the run ends; this core ends
-  exit : Gate
-  core_end : Gate
-  -- bytes of the inputs and outputs, public and private
-  pub_in : Gate
-  pub_out : Gate
-  priv_in : Gate
-  priv_out : Gate
-  -- a word of the private input, and one to the private output
-  priv_get : Gate
-  priv_put : Gate
-  -- the heaps, public and private
-  pub_alloc : Gate
-  priv_alloc : Gate
-  pub_free : Gate
-  priv_free : Gate
-  -- private bytes are handed to a releaser, whose answer is public
-  release : Gate
+use Rattle.cv_word.specs.declared.gates.Gate.{Gate}
+use Rattle.cv_word.specs.declared.gates.Gate.TheVariants.{Exit, CoreEnd, PubIn, PubOut, PrivIn, PrivOut, PrivGet, PrivPut, PubAlloc, PrivAlloc, PubFree, PrivFree, Release}
 
 -- the gates by number
 abbrev pub gates : List Gate
 gates =
-    exit ∷ core_end ∷ pub_in ∷ pub_out ∷ priv_in ∷ priv_out ∷ priv_get ∷ priv_put
-    ∷ pub_alloc ∷ priv_alloc ∷ pub_free ∷ priv_free ∷ release ∷ []
+    Exit ∷ CoreEnd ∷ PubIn ∷ PubOut ∷ PrivIn ∷ PrivOut ∷ PrivGet ∷ PrivPut
+    ∷ PubAlloc ∷ PrivAlloc ∷ PubFree ∷ PrivFree ∷ Release ∷ []
+
+-- the gate of a number; there is none above 12
+abbrev pub gate_of : ℕ → Option Gate
+gate_of number = slice_get gates number
 
 -- What a caller may leave private, as in a call word: bits 0 to 3 say it of rdi, rsi, rdx and rcx, and are set for all that
 -- the gate doesn't read; bit 4 says that its result in rax is private.
 abbrev pub bits_of : Gate → ℕ
-bits_of exit = 0x0e
-bits_of core_end = 0x0f
-bits_of pub_in = 0x0c
-bits_of pub_out = 0x0c
-bits_of priv_in = 0x0c
-bits_of priv_out = 0x0c
-bits_of priv_get = 0x1f
-bits_of priv_put = 0x0f
-bits_of pub_alloc = 0x0e
-bits_of priv_alloc = 0x0e
-bits_of pub_free = 0x0e
-bits_of priv_free = 0x0e
-bits_of release = 0x00
+bits_of Exit = 0x0e
+bits_of CoreEnd = 0x0f
+bits_of PubIn = 0x0c
+bits_of PubOut = 0x0c
+bits_of PrivIn = 0x0c
+bits_of PrivOut = 0x0c
+bits_of PrivGet = 0x1f
+bits_of PrivPut = 0x0f
+bits_of PubAlloc = 0x0e
+bits_of PrivAlloc = 0x0e
+bits_of PubFree = 0x0e
+bits_of PrivFree = 0x0e
+bits_of Release = 0x00
 
 -- bit 4 of the bits: the result is private
 abbrev pub result_bit : Gate → ℕ

@@ -13,7 +13,7 @@ mod steps;
 mod words;
 
 pub use fault::FaultKind;
-pub use gates::gate_bits;
+pub use gates::{Gate, gate_bits};
 pub use memory_map::{CODE_BASE, PRIVATE_BASE, PUBLIC_BASE};
 pub use no_memory::NoMemory;
 pub use registers::{Flags, Registers, Taint};

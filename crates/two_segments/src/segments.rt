@@ -2,7 +2,7 @@
 //!
 //! A segment is a buffer of all its bytes, by offset. An access that leaves its segment's mapped offsets is refused.
 
-ghost use Rattle.std.specs.Prelude.{◌≡◌, ◌+◌, ◌-◌, ◌^◌, ◌<◌, ◌≤◌, ◌&&◌, true, nat_le, length, take, drop, replicate, is_some, IfOk};
+ghost use Rattle.std.specs.Prelude.{◌≡◌, ◌+◌, ◌-◌, ◌^◌, ◌<◌, ◌≤◌, ◌&&◌, ◌++◌, true, nat_le, length, take, drop, replicate, is_some, IfOk};
 ghost use Rattle.std.specs.Option.{unwrap_or};
 ghost use Rattle.cv_word.specs.Words.{IsWidth, little_endian, spliced};
 ghost use Rattle.cv_word.specs.MemoryMap.{code_base, is_mapped};
@@ -144,6 +144,18 @@ impl<'a> Segments<'a> {
         }
     }
 
+    /// Writes so many items of `source` from place `from` on to a segment from an offset on, zeros where `source` has no more. They
+    /// are all mapped, or there are none.
+    pub fn put_items(&mut self, seg: Seg, at: u64, len: u64, source: &[u8], from: u64)
+        requires { is_good self.old.size (range_of seg at len) ≡ true }
+        ensures { self.new ≡ range_written self.old (range_of seg at len) (items_at source.now from len) }
+    {
+        match seg {
+            Seg::Fs => put_items(&mut self.public, at, len, source, from),
+            Seg::Gs => put_items(&mut self.private, at, len, source, from),
+        }
+    }
+
     /// The 8 bytes at a flat address, lowest byte first. None exactly where they don't lie in one region that can be
     /// read: the code or a segment.
     #[tactic(auto, unfolding(crate::specs::Access::loaded, crate::specs::Access::flat_loaded))]
@@ -234,6 +246,34 @@ fn put_bytes(out: &mut [u8], at: u64, bytes: &[u8])
     if !bytes.is_empty() {
         place(out, at as usize, bytes);
     }
+}
+
+/// Writes so many items of `source` from place `from` on, zeros where it has no more, to a place on, or none.
+fn put_items(out: &mut [u8], at: u64, len: u64, source: &[u8], from: u64)
+    requires { 0 < len → at + len ≤ length out.old }
+    ensures { out.new ≡ spliced out.old at (items_at source.now from len) }
+{
+    if len > 0 {
+        copy_items(&mut out[at as usize..(at + len) as usize], source, from);
+    }
+}
+
+/// Fills a list with the items of `source` from place `from` on, zeros where it has no more.
+fn copy_items(out: &mut [u8], source: &[u8], from: u64)
+    ensures { out.new ≡ items_at source.now from (length out.old) }
+{
+    let start = from.min(source.len() as u64) as usize;
+    let count = out.len().min(source.len() - start);
+    place(out, 0, &source[start..start + count]);
+    clear(out, count);
+}
+
+/// Makes all from a place on 0.
+fn clear(out: &mut [u8], from: usize)
+    requires { from ≤ length out.old }
+    ensures { out.new ≡ take from out.old ++ replicate (length out.old - from) 0 }
+{
+    out[from..].fill(0);
 }
 
 /// How many bytes an access of that width has.
