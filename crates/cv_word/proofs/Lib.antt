@@ -1,2 +1,2 @@
 -- Lemmas on the definitions.
-pub mod Items
+pub mod ItemLemmas

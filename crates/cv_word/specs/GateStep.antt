@@ -14,6 +14,7 @@ use Rattle.cv_word.specs.Words.{little_endian, word_bytes, sum_64}
 use Rattle.cv_word.specs.MemoryMap.{code_base, is_mapped}
 use Rattle.cv_word.specs.Marks.{return_word}
 use Rattle.cv_word.specs.Gates.{result_bit}
+use Rattle.cv_word.specs.declared.gates.Arguments.{Arguments}
 use Rattle.cv_word.specs.declared.gates.Gate.{Gate}
 use Rattle.cv_word.specs.declared.gates.Gate.TheVariants.{Exit, CoreEnd, PubIn, PubOut, PrivIn, PrivOut, PrivGet, PrivPut, PubAlloc, PrivAlloc, PubFree, PrivFree, Release}
 use Rattle.cv_word.specs.Heap.{Heap, taken_at, after_take, gives, after_give}
@@ -63,13 +64,6 @@ pub record Releasers : Type 0 where
   pub held : List Bool
   pub tapes : ℕ → TapeState
   pub asked : ℕ → List ℕ
-
--- what the caller passes, in rdi, rsi, rdx and rcx
-pub record Arguments : Type 0 where
-  pub first : ℕ
-  pub second : ℕ
-  pub third : ℕ
-  pub fourth : ℕ
 
 -- ---- ranges
 

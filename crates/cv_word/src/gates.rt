@@ -37,6 +37,19 @@ pub enum Gate {
     Release,
 }
 
+/// What the caller of a gate passes.
+#[derive(Clone, Copy, Debug, PartialEq, Eq)]
+pub struct Arguments {
+    /// rdi
+    pub first: u64,
+    /// rsi
+    pub second: u64,
+    /// rdx
+    pub third: u64,
+    /// rcx
+    pub fourth: u64,
+}
+
 /// The gates by number.
 const GATES: [Gate; 13] = [
     Gate::Exit,

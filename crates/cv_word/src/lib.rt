@@ -6,6 +6,7 @@
 
 mod fault;
 mod gates;
+mod items;
 mod memory_map;
 mod no_memory;
 mod registers;
@@ -13,7 +14,8 @@ mod steps;
 mod words;
 
 pub use fault::FaultKind;
-pub use gates::{Gate, gate_bits};
+pub use gates::{Arguments, Gate, gate_bits};
+pub use items::copy_items;
 pub use memory_map::{CODE_BASE, PRIVATE_BASE, PUBLIC_BASE};
 pub use no_memory::NoMemory;
 pub use registers::{Flags, Registers, Taint};

@@ -2,14 +2,16 @@
 //!
 //! A segment is a buffer of all its bytes, by offset. An access that leaves its segment's mapped offsets is refused.
 
-ghost use Rattle.std.specs.Prelude.{◌≡◌, ◌+◌, ◌-◌, ◌^◌, ◌<◌, ◌≤◌, ◌&&◌, ◌++◌, true, nat_le, length, take, drop, replicate, is_some, IfOk};
+ghost use Rattle.std.specs.Prelude.{◌≡◌, ◌+◌, ◌-◌, ◌^◌, ◌<◌, ◌≤◌, ◌&&◌, true, nat_le, length, take, drop, replicate, is_some, IfOk};
 ghost use Rattle.std.specs.Option.{unwrap_or};
 ghost use Rattle.cv_word.specs.Words.{IsWidth, little_endian, spliced};
 ghost use Rattle.cv_word.specs.MemoryMap.{code_base, is_mapped};
 ghost use Rattle.cv_word.specs.Memory.{is_good, items_at, padded, range_read, range_written, start_memory};
 ghost use Rattle.two_segments.specs.Access.{byte_count, flat_loaded, flat_stored, loaded, range_of, stored};
 
-use cv_word::{CODE_BASE, NoMemory, PRIVATE_BASE, PUBLIC_BASE, le32, le64, put_le};
+use cv_word::{
+    CODE_BASE, NoMemory, PRIVATE_BASE, PUBLIC_BASE, copy_items, le32, le64, put_le,
+};
 use std::alloc::Global;
 use std::marker::Model;
 use x64_decode::{Seg, Width};
@@ -256,24 +258,6 @@ fn put_items(out: &mut [u8], at: u64, len: u64, source: &[u8], from: u64)
     if len > 0 {
         copy_items(&mut out[at as usize..(at + len) as usize], source, from);
     }
-}
-
-/// Fills a list with the items of `source` from place `from` on, zeros where it has no more.
-fn copy_items(out: &mut [u8], source: &[u8], from: u64)
-    ensures { out.new ≡ items_at source.now from (length out.old) }
-{
-    let start = from.min(source.len() as u64) as usize;
-    let count = out.len().min(source.len() - start);
-    place(out, 0, &source[start..start + count]);
-    clear(out, count);
-}
-
-/// Makes all from a place on 0.
-fn clear(out: &mut [u8], from: usize)
-    requires { from ≤ length out.old }
-    ensures { out.new ≡ take from out.old ++ replicate (length out.old - from) 0 }
-{
-    out[from..].fill(0);
 }
 
 /// How many bytes an access of that width has.

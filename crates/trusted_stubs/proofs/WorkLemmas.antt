@@ -1,0 +1,106 @@
+-- Work that isn't refused, and what a gate step makes of it.
+use Rattle.std.proofs.Common.{◌≡◌, ◌∙◌, ℕ, ◌+◌, ◌≤◌, Bool, true, false, ◌&&◌, cond, List, [], length, Option, Some, None, refl, sym, ap, subst, arith, not, ◌%◌, ◌^◌, ℤ}
+use Rattle.std.specs.Prelude.{nat_lt}
+use Rattle.std.specs.Int.{w32, cast_signed}
+use Rattle.std.proofs.lemmas.Bool.{and_parts, true≢false, ltb-false}
+use Rattle.std.proofs.lemmas.Option.{none-some}
+use Rattle.cv_word.specs.declared.fault.FaultKind.{FaultKind}
+use Rattle.cv_word.specs.declared.gates.Arguments.{Arguments}
+use Rattle.cv_word.specs.declared.gates.Gate.{Gate}
+use Rattle.cv_word.specs.declared.gates.Gate.TheVariants.{Exit, CoreEnd, Release}
+use Rattle.cv_word.specs.declared.registers.Registers.{Registers}
+use Rattle.cv_word.specs.Memory.{Memory, Range}
+use Rattle.cv_word.specs.GateStep.{World, Releasers, Work, answers, ends, TapeState, refusal, reads, writes, is_good_range, passes_limit, lacks_releaser, after_work, returned, work, read_from}
+use Rattle.trusted_stubs.specs.declared.end.GateEnd.{GateEnd}
+use Rattle.trusted_stubs.specs.declared.end.GateEnd.TheVariants.{Next}
+use Rattle.trusted_stubs.specs.declared.end.GateEnd.TheVariants as end
+use Rattle.trusted_stubs.specs.Answers.{WorkAnswers, GateStepsTo, changed, no_releasers}
+
+-- ---- refusals
+
+-- a gate that doesn't refuse has good ranges, passes no limit and lacks no releaser
+pub record IsServed (size : ℕ) (gate : Gate) (a : Arguments) (w : World) : Type 0 where
+  pub reads_good : is_good_range size (reads gate a) ≡ true
+  pub writes_good : is_good_range size (writes gate a) ≡ true
+  pub within : passes_limit gate a w ≡ false
+
+no_fault : (bad past lacks : Bool) (x y z : FaultKind) → cond bad (Some x) (cond past (Some y) (cond lacks (Some z) None)) ≡ None → (bad ≡ false) × (past ≡ false) × (lacks ≡ false)
+no_fault true past lacks x y z e = absurd (none-some x (sym e))
+no_fault false true lacks x y z e = absurd (none-some y (sym e))
+no_fault false false true x y z e = absurd (none-some z (sym e))
+no_fault false false false x y z e = (refl, refl, refl)
+
+not_not : (b : Bool) → not b ≡ false → b ≡ true
+not_not true e = refl
+not_not false e = absurd (true≢false e)
+
+parts_of_none : (size : ℕ) (gate : Gate) (a : Arguments) (w : World) (r : Releasers) → refusal size gate a w r ≡ None →
+    IsServed size gate a w × (lacks_releaser gate a r ≡ false)
+unfolding refusal
+parts_of_none size gate a w r e =
+    let parts = no_fault (not (is_good_range size (reads gate a) && is_good_range size (writes gate a))) (passes_limit gate a w) (lacks_releaser gate a r) _ _ _ e in
+    let both = and_parts (is_good_range size (reads gate a)) (is_good_range size (writes gate a)) (not_not _ parts.0) in
+    (record { reads_good = both.0; writes_good = both.1; within = parts.1 }, parts.2)
+
+no_tape : ℕ → TapeState
+no_tape class = record { left = record { bytes = []; releases = None }; taken = 0; answered = 0 }
+
+-- what is so of a gate that was found to be this one
+module _ (size : ℕ) (gate known : Gate) (a : Arguments) (w : World) (is : gate ≡ known)
+    (served : (tapes : ℕ → TapeState) (asked : ℕ → List ℕ) → refusal size gate a w (no_releasers tapes asked) ≡ None) where
+  refused_not : refusal size known a w (no_releasers no_tape (λ class. [])) ≡ None
+  refused_not =
+      let P : Gate → Type 0 = λ g. refusal size g a w (no_releasers no_tape (λ class. [])) ≡ None in
+      subst P is (served no_tape (λ class. []))
+
+  pub is_served : IsServed size known a w
+  is_served = (parts_of_none size known a w (no_releasers no_tape (λ class. [])) refused_not).0
+
+-- a release is refused, since no class has a releaser
+pub no_release : (size : ℕ) (gate : Gate) (a : Arguments) (w : World) → gate ≡ Release →
+    ((tapes : ℕ → TapeState) (asked : ℕ → List ℕ) → refusal size gate a w (no_releasers tapes asked) ≡ None) → ⊥
+no_release size gate a w is served =
+    let P : Gate → Type 0 = λ g. refusal size g a w (no_releasers no_tape (λ class. [])) ≡ None in
+    true≢false (parts_of_none size Release a w (no_releasers no_tape (λ class. [])) (subst P is (served no_tape (λ class. [])))).1
+
+-- what passes no limit has room
+pub has_room : (most total : ℕ) → nat_lt most total ≡ false → total ≤ most
+has_room most total e = ltb-false most total e
+
+-- ---- answers
+
+settled : (k : Work) (answer next : ℕ) (range : Option Range) (s s' : Registers) (m m' : Memory) (w w' : World) → WorkAnswers k answer range m m' w' →
+    s' ≡ returned answer next s → GateStepsTo (after_work k next range s m) Next (changed s m w) (changed s' m' w')
+settled (answers n bytes v r) answer next range s s' m m' w w' h e = (e ∙ ap (λ (x : ℕ). returned x next s) h.0, h.1, h.2)
+settled (ends ending) answer next range s s' m m' w w' h e = absurd h
+
+-- the work of a gate that was found to be this one is done, and the core goes on
+pub answered : (gate known : Gate) (a : Arguments) (answer next : ℕ) (end : GateEnd) (s s' : Registers) (m m' : Memory) (w w' : World) → gate ≡ known → end ≡ Next →
+    ((r : Releasers) → WorkAnswers (work known a (read_from m (reads known a)) w r) answer (writes known a) m m' w') → s' ≡ returned answer next s →
+    (r : Releasers) → GateStepsTo (after_work (work gate a (read_from m (reads gate a)) w r) next (writes gate a) s m) end (changed s m w) (changed s' m' w')
+answered gate known a answer next end s s' m m' w w' is ended done e r =
+    let P : Gate → Type 0 = λ g. GateStepsTo (after_work (work g a (read_from m (reads g a)) w r) next (writes g a) s m) end (changed s m w) (changed s' m' w') in
+    let Q : GateEnd → Type 0 = λ x. GateStepsTo (after_work (work known a (read_from m (reads known a)) w r) next (writes known a) s m) x (changed s m w) (changed s' m' w') in
+    subst P (sym is) (subst Q (sym ended) (settled (work known a (read_from m (reads known a)) w r) answer next (writes known a) s s' m m' w w' (done r) e))
+
+-- ---- the two gates that end the core or the run
+
+pub exited : (gate : Gate) (a : Arguments) (next : ℕ) (answer : GateEnd) (s : Registers) (m : Memory) (w : World) → gate ≡ Exit → answer ≡ end.Exit (cast_signed w32 (a.first % 2 ^ 32)) →
+    (r : Releasers) → GateStepsTo (after_work (work gate a (read_from m (reads gate a)) w r) next (writes gate a) s m) answer (changed s m w) (changed s m w)
+unfolding work
+exited gate a next answer s m w is e r =
+    let P : Gate → Type 0 = λ g. GateStepsTo (after_work (work g a (read_from m (reads g a)) w r) next (writes g a) s m) answer (changed s m w) (changed s m w) in
+    let Q : GateEnd → Type 0 = λ x. GateStepsTo (after_work (work Exit a (read_from m (reads Exit a)) w r) next (writes Exit a) s m) x (changed s m w) (changed s m w) in
+    subst P (sym is) (subst Q (sym e) (refl, refl))
+
+pub core_ended : (gate : Gate) (a : Arguments) (next : ℕ) (s : Registers) (m : Memory) (w : World) → gate ≡ CoreEnd →
+    (r : Releasers) → GateStepsTo (after_work (work gate a (read_from m (reads gate a)) w r) next (writes gate a) s m) end.CoreEnd (changed s m w) (changed s m w)
+unfolding work
+core_ended gate a next s m w is r =
+    let P : Gate → Type 0 = λ g. GateStepsTo (after_work (work g a (read_from m (reads g a)) w r) next (writes g a) s m) end.CoreEnd (changed s m w) (changed s m w) in
+    subst P (sym is) (tt, refl)
+
+-- ---- ranges
+
+pub both_are : {a b c d : Bool} → a ≡ c → b ≡ d → (a && b) ≡ (c && d)
+both_are e f = cc
