@@ -6,14 +6,20 @@
 //! [`MemStore`] and [`MemSink`] hold all in memory, tell it, and fail at the calls that they are given.
 #![tactic(auto)]
 
+mod classes;
+mod memory_releaser;
 mod memory_sink;
 mod memory_store;
+mod releaser;
 mod sink;
 mod store;
 #[cfg(test)]
 mod tests;
 
+pub use classes::{ask, is_held};
+pub use memory_releaser::XorPad;
 pub use memory_sink::MemSink;
 pub use memory_store::MemStore;
+pub use releaser::{TrustFault, Trusted};
 pub use sink::{Sink, SinkError};
 pub use store::{LONGEST_LOAD, Store, StoreError};

@@ -191,3 +191,73 @@ fn copies_by_the_traits(rt: HostRuntime) -> Result<(), Fail> {
     assert_eq!(rt; broken.faults, 2);
     Ok(())
 }
+
+/// Two releases over a pad: what both answer, how many fail, and the length of the last that does.
+#[test]
+fn pad_answers_and_fails(rt: HostRuntime) -> Result<(), Fail> {
+    let alloc = rt.alloc();
+    let rows: [(&[u8], u64, &[u8], &[u8], &[u8], u64, u64); 7] = [
+        // The second release fails.
+        (&[0x5a; 8], 2, &[0], &[0], &[0x5a], 1, 1),
+        // The bytes that are left are used, and no more than these.
+        (
+            &[1, 2, 4],
+            3,
+            &[0xf0, 0x0f],
+            &[0xff],
+            &[0xf1, 0x0d, 0xfb],
+            0,
+            0,
+        ),
+        // The pad is one byte short.
+        (&[1, 2, 4], 0, &[0xf0, 0x0f], &[0, 0], &[0xf1, 0x0d], 1, 2),
+        // A release that fails uses none of the pad.
+        (&[1, 2, 4], 1, &[7, 7, 7], &[0, 0, 0], &[1, 2, 4], 1, 3),
+        // Releases of 0 bytes.
+        (&[], 0, &[], &[], &[], 0, 0),
+        (&[], 2, &[], &[], &[], 1, 0),
+        (&[], 0, &[], &[9], &[], 1, 1),
+    ];
+    for (bytes, failing, first, second, told, faults, failed_len) in rows {
+        let fails = vec![in alloc; failing, 0, 9]?;
+        let mut pad = XorPad::new(alloc, Vec::from_slice(alloc, bytes)?, fails)?;
+        let answers = [
+            pad.release(first, &mut Vec::from_slice(alloc, first)?)
+                .is_err(),
+            pad.release(second, &mut Vec::from_slice(alloc, second)?)
+                .is_err(),
+        ];
+        assert_eq!(rt; answers, [failing == 1, failing != 1 && faults == 1]);
+        assert_eq!(rt; pad.told(), told, "with {bytes:?}, failing at {failing}");
+        assert_eq!(rt; pad.faults(), faults);
+        assert_eq!(rt; pad.failed_len(), failed_len);
+    }
+    Ok(())
+}
+
+/// A pad in the list of releasers: class 1 has it, and no other class has a releaser.
+#[test]
+fn a_class_is_asked(rt: HostRuntime) -> Result<(), Fail> {
+    let alloc = rt.alloc();
+    let pad = XorPad::new(alloc, vec![in alloc; 0x5a, 0xa5]?, Vec::new(alloc))?;
+    let mut trusted: Vec<Option<Box<dyn Trusted>>> = Vec::new(alloc);
+    trusted.push(None)?;
+    trusted.push(Some(Box::new(alloc, pad)?))?;
+    for class in [0, 2, 1 << 32, u64::MAX] {
+        assert!(rt; !is_held(&trusted, class), "class {class}");
+    }
+
+    let mut to = [0, 0];
+    assert!(rt; is_held(&trusted, 1));
+    ask(&mut trusted, 1, &[0x03, 0xff], &mut to)?;
+    assert_eq!(rt; to, [0x59, 0x5a]);
+    assert!(rt; is_held(&trusted, 1));
+    assert_eq!(rt; ask(&mut trusted, 1, &[7], &mut to[..1]), Err(TrustFault));
+
+    let releaser = trusted[1].as_ref().ok_or("no releaser")?;
+    assert_eq!(rt; releaser.heard(), [0x03, 0xff].as_slice());
+    assert_eq!(rt; releaser.told(), [0x59, 0x5a].as_slice());
+    assert_eq!(rt; releaser.failed_len(), 1);
+    assert_eq!(rt; releaser.faults(), 1);
+    Ok(())
+}
