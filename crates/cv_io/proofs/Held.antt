@@ -1,5 +1,5 @@
 -- The releasers of all classes, of which an entry is looked at or written.
-use Rattle.std.proofs.Common.{◌≡◌, ℕ, zero, suc, arith, ◌<◌, ◌≤◌, false, List, [], ◌∷◌, Option, Some, None, Result, IsSome, IsTrue, rules, length, slice_index_or, slice_set, is_some, sym, refl, ap, ◌∙◌}
+use Rattle.std.proofs.Common.{◌≡◌, ℕ, zero, suc, arith, ◌<◌, List, [], ◌∷◌, Option, Some, None, Result, IsSome, IsTrue, rules, length, slice_index_or, slice_set, is_some, sym, ap, ◌∙◌}
 use Rattle.std.proofs.Math.Seq.{map-set_same}
 use Rattle.std.proofs.lemmas.List.{map-set}
 use Rattle.std.proofs.lemmas.Option.{slice_get-map, slice_get-get_or, get_or_from_slice_get}
@@ -20,13 +20,7 @@ held_at known (Some r ∷ rs) zero x within e = ap is_some (sym e)
 held_at known (None ∷ rs) zero x within e = ap is_some (sym e)
 held_at known (r ∷ rs) (suc i) x within e = held_at known rs i x (omega arith) e
 
--- a class past the list has none
-pub held_past : {R : Type 0} (known : R → Known) (rs : List (Option R)) (class : ℕ) → length rs ≤ class → is_held (held_of (classes_by known rs)) class ≡ false
-held_past known [] class past = refl
-held_past known (r ∷ rs) zero past = absurd (omega arith)
-held_past known (r ∷ rs) (suc i) past = held_past known rs i (omega arith)
-
--- such a class is not past the list
+-- a class that has a releaser is not past the list
 pub within_held : {R : Type 0} (known : R → Known) (rs : List (Option R)) (class : ℕ) → IsTrue (is_held (held_of (classes_by known rs)) class) → class < length rs
 within_held known [] class h = cc
 within_held known (r ∷ rs) zero h = omega arith

@@ -39,7 +39,7 @@ unused releaser = drop (length releaser.known.told) releaser.pad
 abbrev pub FailsNext : PadInMemory → ℕ → Type 0
 FailsNext releaser len = Contains releaser.failing (one_more releaser.calls) ⊎ (length (unused releaser) < len)
 
--- after a release of the first bytes that has answered this and the second bytes
+-- after a release that was asked with the first bytes, and has ended with this answer and the second bytes
 abbrev pub after_release : {T E : Type 0} → Result T E → List ℕ → List ℕ → PadInMemory → PadInMemory
 after_release (Ok _) from to releaser = record releaser {
   calls = one_more releaser.calls;

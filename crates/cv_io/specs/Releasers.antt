@@ -18,15 +18,15 @@ pub record Known : Type 0 where
 abbrev pub unasked : Known
 unasked = record { heard = []; told = []; failed_len = 0; faults = 0 }
 
--- a request with these bytes has failed
+-- a release that was asked with these bytes has failed
 pub record HasFailed (from : List ℕ) (old new : Known) : Type 0 where
-  pub same_heard : new.heard ≡ old.heard
-  pub same_told : new.told ≡ old.told
-  pub length_told : new.failed_len ≡ length from
-  pub has_risen : HasRisen old.faults new.faults
+  pub heard_stays : new.heard ≡ old.heard
+  pub told_stays : new.told ≡ old.told
+  pub len_is_kept : new.failed_len ≡ length from
+  pub risen : HasRisen old.faults new.faults
   pub counted : old.faults ≤ new.faults
 
--- a release that was asked with the first bytes, and has answered this and the second bytes
+-- a release was asked with the first bytes, and has ended with this answer and the second bytes
 abbrev pub Releases : {T E : Type 0} → Result T E → List ℕ → List ℕ → Known → Known → Type 0
 Releases (Ok _) from to old new = new ≡ record old { heard = old.heard ++ from; told = old.told ++ to }
 Releases (Err _) from to old new = HasFailed from old new
@@ -47,7 +47,7 @@ held_of classes = map is_some classes
 abbrev pub is_held : List Bool → ℕ → Bool
 is_held held class = get_or held class false
 
--- the releaser of an entry was asked
+-- the releaser of an entry was asked with the first bytes, and has ended with this answer and the second bytes
 pub record AsksEntry {T E : Type 0} (answer : Result T E) (from to : List ℕ) (old new : Option Known) : Type 0 where
   pub before : Known
   pub after : Known
@@ -55,7 +55,7 @@ pub record AsksEntry {T E : Type 0} (answer : Result T E) (from to : List ℕ) (
   pub is : new ≡ Some after
   pub releases : Releases answer from to before after
 
--- the releaser of the class was asked, and nothing else has changed
+-- the releaser of the class was so asked, and no other entry has changed
 pub record Asks {T E : Type 0} (answer : Result T E) (class : ℕ) (from to : List ℕ) (old new : Classes) : Type 0 where
   pub before : Known
   pub after : Known

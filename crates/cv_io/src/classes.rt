@@ -1,6 +1,6 @@
 //! The releasers of all classes.
 
-ghost use Rattle.std.specs.Prelude.{◌≡◌, IsSome, IsTrue, length};
+ghost use Rattle.std.specs.Prelude.{◌≡◌, ◌<◌, IsSome, IsTrue, length};
 ghost use Rattle.std.specs.Option.{option_map};
 ghost use Rattle.cv_io.specs.Releasers.{Asks, AsksEntry, Releases, classes_by, held_of, is_held};
 
@@ -8,7 +8,8 @@ use crate::releaser::{TrustFault, Trusted};
 
 /// Whether the class of this number has a releaser. A class past the list has none.
 pub fn is_held(trusted: &Vec<Option<Box<dyn Trusted>>>, class: u64) -> bool
-    ensures { result ≡ is_held (held_of (classes_by known trusted.now.items)) class }
+    ensures held { result ≡ is_held (held_of (classes_by known trusted.now.items)) class }
+    ensures within { IsTrue result → class < length (classes_by known trusted.now.items) }
 {
     let place = class as usize;
     place < trusted.len() && trusted[place].is_some()
@@ -17,7 +18,8 @@ pub fn is_held(trusted: &Vec<Option<Box<dyn Trusted>>>, class: u64) -> bool
 /// Asks the releaser of a class with the bytes `from`, and fills `to` with its answer.
 ///
 /// The class has a releaser, and the two slices have one length. Answers `TrustFault` where the
-/// releaser does. No other releaser is asked, and no class gets or loses one.
+/// releaser does. No other releaser is asked, no class gets or loses one, and there are as many
+/// classes as before.
 pub fn ask(
     trusted: &mut Vec<Option<Box<dyn Trusted>>>,
     class: u64,
@@ -28,6 +30,7 @@ pub fn ask(
     requires lengths { length from.now ≡ length to.old }
     ensures asks { Asks result class from.now to.new (classes_by known trusted.old.items) (classes_by known trusted.new.items) }
     ensures held { held_of (classes_by known trusted.new.items) ≡ held_of (classes_by known trusted.old.items) }
+    ensures count { length (classes_by known trusted.new.items) ≡ length (classes_by known trusted.old.items) }
 {
     ask_entry(&mut trusted[class as usize], from, to)
 }

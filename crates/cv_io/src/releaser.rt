@@ -1,4 +1,4 @@
-//! Who decides what leaves the private part.
+//! Who turns private bytes into bytes that may become public.
 
 ghost use Rattle.std.specs.Prelude.{◌≡◌, length};
 ghost use Rattle.cv_io.specs.Releasers.{Known, Releases};

@@ -235,11 +235,12 @@ fn pad_answers_and_fails(rt: HostRuntime) -> Result<(), Fail> {
     Ok(())
 }
 
-/// A pad in the list of releasers: class 1 has it, and no other class has a releaser.
+/// Class 1 has a pad, and no other class has a releaser. A release of 0 bytes is one of the three that
+/// are counted.
 #[test]
 fn a_class_is_asked(rt: HostRuntime) -> Result<(), Fail> {
     let alloc = rt.alloc();
-    let pad = XorPad::new(alloc, vec![in alloc; 0x5a, 0xa5]?, Vec::new(alloc))?;
+    let pad = XorPad::new(alloc, vec![in alloc; 0x5a, 0xa5, 1]?, vec![in alloc; 3]?)?;
     let mut trusted: Vec<Option<Box<dyn Trusted>>> = Vec::new(alloc);
     trusted.push(None)?;
     trusted.push(Some(Box::new(alloc, pad)?))?;
@@ -252,8 +253,11 @@ fn a_class_is_asked(rt: HostRuntime) -> Result<(), Fail> {
     ask(&mut trusted, 1, &[0x03, 0xff], &mut to)?;
     assert_eq!(rt; to, [0x59, 0x5a]);
     assert!(rt; is_held(&trusted, 1));
+    ask(&mut trusted, 1, &[], &mut [])?;
+    assert!(rt; is_held(&trusted, 1));
     assert_eq!(rt; ask(&mut trusted, 1, &[7], &mut to[..1]), Err(TrustFault));
 
+    assert_eq!(rt; trusted.len(), 2);
     let releaser = trusted[1].as_ref().ok_or("no releaser")?;
     assert_eq!(rt; releaser.heard(), [0x03, 0xff].as_slice());
     assert_eq!(rt; releaser.told(), [0x59, 0x5a].as_slice());
