@@ -10,7 +10,7 @@ use Rattle.cv_word.specs.declared.gates.Gate.{Gate}
 use Rattle.cv_word.specs.declared.gates.Gate.TheVariants.{Exit, CoreEnd, Release}
 use Rattle.cv_word.specs.declared.registers.Registers.{Registers}
 use Rattle.cv_word.specs.Memory.{Memory, Range}
-use Rattle.cv_word.specs.GateStep.{World, Releasers, Work, answers, ends, TapeState, refusal, reads, writes, is_good_range, passes_limit, lacks_releaser, after_work, returned, work, read_from}
+use Rattle.cv_word.specs.GateStep.{World, Releasers, Work, answers, ends, TapeState, refusal, reads, writes, is_good_range, passes_limit, lacks_releaser, after_work, returned, work, read_from, written_to}
 use Rattle.trusted_stubs.specs.declared.end.GateEnd.{GateEnd}
 use Rattle.trusted_stubs.specs.declared.end.GateEnd.TheVariants.{Next}
 use Rattle.trusted_stubs.specs.declared.end.GateEnd.TheVariants as end
@@ -69,35 +69,39 @@ has_room most total e = ltb-false most total e
 
 -- ---- answers
 
-settled : (k : Work) (answer next : ℕ) (range : Option Range) (s s' : Registers) (m m' : Memory) (w w' : World) → WorkAnswers k answer range m m' w' →
-    s' ≡ returned answer next s → GateStepsTo (after_work k next range s m) Next (changed s m w) (changed s' m' w')
-settled (answers n bytes v r) answer next range s s' m m' w w' h e = (e ∙ ap (λ (x : ℕ). returned x next s) h.0, h.1, h.2)
-settled (ends ending) answer next range s s' m m' w w' h e = absurd h
+same_changed : (s s' : Registers) (m m' : Memory) (w w' : World) (r r' : Releasers) → s ≡ s' → m ≡ m' → w ≡ w' → r ≡ r' → changed s m w r ≡ changed s' m' w' r'
+same_changed s s' m m' w w' r r' a b c d = cc
+
+settled : (k : Work) (answer next : ℕ) (range : Option Range) (s s' : Registers) (m m' : Memory) (w w' : World) (r r' : Releasers) → WorkAnswers k answer range m m' w' r' →
+    s' ≡ returned answer next s → GateStepsTo (after_work k next range s m) Next (changed s m w r) (changed s' m' w' r')
+settled (answers n bytes v q) answer next range s s' m m' w w' r r' h e =
+    same_changed s' (returned n next s) m' (written_to m range bytes) w' v r' q (e ∙ ap (λ (x : ℕ). returned x next s) h.0) h.1 h.2 h.3
+settled (ends ending) answer next range s s' m m' w w' r r' h e = absurd h
 
 -- the work of a gate that was found to be this one is done, and the core goes on
 pub answered : (gate known : Gate) (a : Arguments) (answer next : ℕ) (end : GateEnd) (s s' : Registers) (m m' : Memory) (w w' : World) → gate ≡ known → end ≡ Next →
-    ((r : Releasers) → WorkAnswers (work known a (read_from m (reads known a)) w r) answer (writes known a) m m' w') → s' ≡ returned answer next s →
-    (r : Releasers) → GateStepsTo (after_work (work gate a (read_from m (reads gate a)) w r) next (writes gate a) s m) end (changed s m w) (changed s' m' w')
+    ((r : Releasers) → WorkAnswers (work known a (read_from m (reads known a)) w r) answer (writes known a) m m' w' r) → s' ≡ returned answer next s →
+    (r : Releasers) → GateStepsTo (after_work (work gate a (read_from m (reads gate a)) w r) next (writes gate a) s m) end (changed s m w r) (changed s' m' w' r)
 answered gate known a answer next end s s' m m' w w' is ended done e r =
-    let P : Gate → Type 0 = λ g. GateStepsTo (after_work (work g a (read_from m (reads g a)) w r) next (writes g a) s m) end (changed s m w) (changed s' m' w') in
-    let Q : GateEnd → Type 0 = λ x. GateStepsTo (after_work (work known a (read_from m (reads known a)) w r) next (writes known a) s m) x (changed s m w) (changed s' m' w') in
-    subst P (sym is) (subst Q (sym ended) (settled (work known a (read_from m (reads known a)) w r) answer next (writes known a) s s' m m' w w' (done r) e))
+    let P : Gate → Type 0 = λ g. GateStepsTo (after_work (work g a (read_from m (reads g a)) w r) next (writes g a) s m) end (changed s m w r) (changed s' m' w' r) in
+    let Q : GateEnd → Type 0 = λ x. GateStepsTo (after_work (work known a (read_from m (reads known a)) w r) next (writes known a) s m) x (changed s m w r) (changed s' m' w' r) in
+    subst P (sym is) (subst Q (sym ended) (settled (work known a (read_from m (reads known a)) w r) answer next (writes known a) s s' m m' w w' r r (done r) e))
 
 -- ---- the two gates that end the core or the run
 
 pub exited : (gate : Gate) (a : Arguments) (next : ℕ) (answer : GateEnd) (s : Registers) (m : Memory) (w : World) → gate ≡ Exit → answer ≡ end.Exit (cast_signed w32 (a.first % 2 ^ 32)) →
-    (r : Releasers) → GateStepsTo (after_work (work gate a (read_from m (reads gate a)) w r) next (writes gate a) s m) answer (changed s m w) (changed s m w)
+    (r : Releasers) → GateStepsTo (after_work (work gate a (read_from m (reads gate a)) w r) next (writes gate a) s m) answer (changed s m w r) (changed s m w r)
 unfolding work
 exited gate a next answer s m w is e r =
-    let P : Gate → Type 0 = λ g. GateStepsTo (after_work (work g a (read_from m (reads g a)) w r) next (writes g a) s m) answer (changed s m w) (changed s m w) in
-    let Q : GateEnd → Type 0 = λ x. GateStepsTo (after_work (work Exit a (read_from m (reads Exit a)) w r) next (writes Exit a) s m) x (changed s m w) (changed s m w) in
+    let P : Gate → Type 0 = λ g. GateStepsTo (after_work (work g a (read_from m (reads g a)) w r) next (writes g a) s m) answer (changed s m w r) (changed s m w r) in
+    let Q : GateEnd → Type 0 = λ x. GateStepsTo (after_work (work Exit a (read_from m (reads Exit a)) w r) next (writes Exit a) s m) x (changed s m w r) (changed s m w r) in
     subst P (sym is) (subst Q (sym e) (refl, refl))
 
 pub core_ended : (gate : Gate) (a : Arguments) (next : ℕ) (s : Registers) (m : Memory) (w : World) → gate ≡ CoreEnd →
-    (r : Releasers) → GateStepsTo (after_work (work gate a (read_from m (reads gate a)) w r) next (writes gate a) s m) end.CoreEnd (changed s m w) (changed s m w)
+    (r : Releasers) → GateStepsTo (after_work (work gate a (read_from m (reads gate a)) w r) next (writes gate a) s m) end.CoreEnd (changed s m w r) (changed s m w r)
 unfolding work
 core_ended gate a next s m w is r =
-    let P : Gate → Type 0 = λ g. GateStepsTo (after_work (work g a (read_from m (reads g a)) w r) next (writes g a) s m) end.CoreEnd (changed s m w) (changed s m w) in
+    let P : Gate → Type 0 = λ g. GateStepsTo (after_work (work g a (read_from m (reads g a)) w r) next (writes g a) s m) end.CoreEnd (changed s m w r) (changed s m w r) in
     subst P (sym is) (tt, refl)
 
 -- ---- ranges

@@ -12,14 +12,15 @@ use Rattle.trusted_stubs.specs.declared.end.GateEnd.TheVariants.{Next, CoreEnd, 
 abbrev pub no_releasers : (ℕ → TapeState) → (ℕ → List ℕ) → Releasers
 no_releasers tapes asked = record { held = []; tapes = tapes; asked = asked }
 
--- what a gate step changes: the registers of the core, memory, and the gates' world
+-- what a gate step changes: the registers of the core, memory, the gates' world, and the releasers
 pub record Changed : Type 0 where
   pub registers : Registers
   pub memory : Memory
   pub world : World
+  pub releasers : Releasers
 
-abbrev pub changed : Registers → Memory → World → Changed
-changed s m w = record { registers = s; memory = m; world = w }
+abbrev pub changed : Registers → Memory → World → Releasers → Changed
+changed s m w r = record { registers = s; memory = m; world = w; releasers = r }
 
 abbrev pub IsEnd : Ending → GateEnd → Type 0
 IsEnd ends_core CoreEnd = Unit {0}
@@ -30,16 +31,16 @@ IsEnd _ _ = ⊥
 -- A gate step with this effect answers this, and leaves this in place of what was there before. Where it doesn't go on, all is as
 -- before.
 abbrev pub GateStepsTo : GateEffect → GateEnd → Changed → Changed → Type 0
-GateStepsTo (goes s m w r) Next old new = (new.registers ≡ s) × (new.memory ≡ m) × (new.world ≡ w)
+GateStepsTo (goes s m w r) Next old new = new ≡ changed s m w r
 GateStepsTo (stops ending) answer old new = IsEnd ending answer × (new ≡ old)
 GateStepsTo (faults kind) (Fault answer) old new = (answer ≡ kind) × (new ≡ old)
 GateStepsTo _ _ old new = ⊥
 
--- a gate's work answers this number, and leaves this memory and this world
-abbrev pub WorkAnswers : Work → ℕ → Option Range → Memory → Memory → World → Type 0
-WorkAnswers (answers answer bytes w r) result range m new_memory new_world =
-    (result ≡ answer) × (new_memory ≡ written_to m range bytes) × (new_world ≡ w)
-WorkAnswers (ends ending) result range m new_memory new_world = ⊥
+-- a gate's work answers this number, and leaves this memory, this world and these releasers
+abbrev pub WorkAnswers : Work → ℕ → Option Range → Memory → Memory → World → Releasers → Type 0
+WorkAnswers (answers answer bytes w r) result range m new_memory new_world new_releasers =
+    (result ≡ answer) × (new_memory ≡ written_to m range bytes) × (new_world ≡ w) × (new_releasers ≡ r)
+WorkAnswers (ends ending) result range m new_memory new_world new_releasers = ⊥
 
 -- the effect of a gate step, by the place at which the core waits, or the fault of looking for it
 abbrev pub from_place : Result ℕ FaultKind → Gate → Registers → Memory → World → Releasers → GateEffect

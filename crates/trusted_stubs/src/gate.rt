@@ -35,7 +35,7 @@ pub fn gate_step(
     segs: &mut Segments<'_>,
     world: &mut World<'_>,
 ) -> GateEnd
-    ensures { (tapes : ℕ → TapeState) (asked : ℕ → List ℕ) → GateStepsTo (gate_step gate regs.old segs.old world.old (no_releasers tapes asked)) result (changed regs.old segs.old world.old) (changed regs.new segs.new world.new) }
+    ensures { (tapes : ℕ → TapeState) (asked : ℕ → List ℕ) → GateStepsTo (gate_step gate regs.old segs.old world.old (no_releasers tapes asked)) result (changed regs.old segs.old world.old (no_releasers tapes asked)) (changed regs.new segs.new world.new (no_releasers tapes asked)) }
 {
     let at = match waiting_place(gate, regs, segs, world) {
         Ok(at) => at,
@@ -107,7 +107,7 @@ fn do_work(
     world: &mut World<'_>,
 ) -> GateEnd
     requires { (tapes : ℕ → TapeState) (asked : ℕ → List ℕ) → refusal segs.old.size gate a world.old (no_releasers tapes asked) ≡ None }
-    ensures { (r : Releasers) → GateStepsTo (after_work (work gate a (read_from segs.old (reads gate a)) world.old r) next (writes gate a) regs.old segs.old) result (changed regs.old segs.old world.old) (changed regs.new segs.new world.new) }
+    ensures { (r : Releasers) → GateStepsTo (after_work (work gate a (read_from segs.old (reads gate a)) world.old r) next (writes gate a) regs.old segs.old) result (changed regs.old segs.old world.old r) (changed regs.new segs.new world.new r) }
 {
     match gate {
         Gate::Exit => exit(a.first),

@@ -18,7 +18,7 @@ use x64_decode::Seg;
 #[tactic(auto, unfolding(cv_word::specs::GateStep::work))]
 pub(crate) fn read_public(a: Arguments, segs: &mut Segments<'_>, world: &mut World<'_>) -> u64
     requires { is_good segs.old.size (public_range a.first a.second) ≡ true }
-    ensures { (r : Releasers) → WorkAnswers (work gate.PubIn a (read_from segs.old (reads gate.PubIn a)) world.old r) result (writes gate.PubIn a) segs.old segs.new world.new }
+    ensures { (r : Releasers) → WorkAnswers (work gate.PubIn a (read_from segs.old (reads gate.PubIn a)) world.old r) result (writes gate.PubIn a) segs.old segs.new world.new r }
 {
     let count = world.copied(a.second);
     segs.put_items(
@@ -37,7 +37,7 @@ pub(crate) fn read_public(a: Arguments, segs: &mut Segments<'_>, world: &mut Wor
 pub(crate) fn write_public(a: Arguments, segs: &Segments<'_>, world: &mut World<'_>) -> u64
     requires range { is_good segs.now.size (public_range a.first a.second) ≡ true }
     requires room { length world.old.visible.public_output + a.second ≤ most_output }
-    ensures { (r : Releasers) → WorkAnswers (work gate.PubOut a (read_from segs.now (reads gate.PubOut a)) world.old r) result (writes gate.PubOut a) segs.now segs.now world.new }
+    ensures { (r : Releasers) → WorkAnswers (work gate.PubOut a (read_from segs.now (reads gate.PubOut a)) world.old r) result (writes gate.PubOut a) segs.now segs.now world.new r }
 {
     let bytes = segs.range(Seg::Fs, a.first, a.second);
     world.public_output.append(bytes);
@@ -48,7 +48,7 @@ pub(crate) fn write_public(a: Arguments, segs: &Segments<'_>, world: &mut World<
 #[tactic(auto, unfolding(cv_word::specs::GateStep::work))]
 pub(crate) fn read_private(a: Arguments, segs: &mut Segments<'_>, world: &mut World<'_>) -> u64
     requires { is_good segs.old.size (private_range a.first a.second) ≡ true }
-    ensures { (r : Releasers) → WorkAnswers (work gate.PrivIn a (read_from segs.old (reads gate.PrivIn a)) world.old r) result (writes gate.PrivIn a) segs.old segs.new world.new }
+    ensures { (r : Releasers) → WorkAnswers (work gate.PrivIn a (read_from segs.old (reads gate.PrivIn a)) world.old r) result (writes gate.PrivIn a) segs.old segs.new world.new r }
 {
     segs.put_items(
         Seg::Gs,
@@ -66,7 +66,7 @@ pub(crate) fn read_private(a: Arguments, segs: &mut Segments<'_>, world: &mut Wo
 pub(crate) fn write_private(a: Arguments, segs: &Segments<'_>, world: &mut World<'_>) -> u64
     requires range { is_good segs.now.size (private_range a.first a.second) ≡ true }
     requires room { length world.old.private_output + a.second ≤ most_output }
-    ensures { (r : Releasers) → WorkAnswers (work gate.PrivOut a (read_from segs.now (reads gate.PrivOut a)) world.old r) result (writes gate.PrivOut a) segs.now segs.now world.new }
+    ensures { (r : Releasers) → WorkAnswers (work gate.PrivOut a (read_from segs.now (reads gate.PrivOut a)) world.old r) result (writes gate.PrivOut a) segs.now segs.now world.new r }
 {
     let bytes = segs.range(Seg::Gs, a.first, a.second);
     world.private_output.append(bytes);
@@ -76,7 +76,7 @@ pub(crate) fn write_private(a: Arguments, segs: &Segments<'_>, world: &mut World
 /// PrivGet: answers the next 8 bytes of the private input, lowest first, zeros past its end.
 #[tactic(auto, unfolding(cv_word::specs::GateStep::work))]
 pub(crate) fn get_private(world: &mut World<'_>) -> u64
-    ensures { (r : Releasers) (a : Arguments) (m : Memory) → WorkAnswers (work gate.PrivGet a (read_from m (reads gate.PrivGet a)) world.old r) result (writes gate.PrivGet a) m m world.new }
+    ensures { (r : Releasers) (a : Arguments) (m : Memory) → WorkAnswers (work gate.PrivGet a (read_from m (reads gate.PrivGet a)) world.old r) result (writes gate.PrivGet a) m m world.new r }
 {
     let word = word_at(world.private_input, world.private_position);
     world.private_position = world.private_position.saturating_add(8);
@@ -87,7 +87,7 @@ pub(crate) fn get_private(world: &mut World<'_>) -> u64
 #[tactic(auto, unfolding(cv_word::specs::GateStep::work))]
 pub(crate) fn put_private(a: Arguments, world: &mut World<'_>) -> u64
     requires { length world.old.private_output + 8 ≤ most_output }
-    ensures { (r : Releasers) (m : Memory) → WorkAnswers (work gate.PrivPut a (read_from m (reads gate.PrivPut a)) world.old r) result (writes gate.PrivPut a) m m world.new }
+    ensures { (r : Releasers) (m : Memory) → WorkAnswers (work gate.PrivPut a (read_from m (reads gate.PrivPut a)) world.old r) result (writes gate.PrivPut a) m m world.new r }
 {
     world.private_output.append(&a.first.to_le_bytes());
     0
@@ -96,7 +96,7 @@ pub(crate) fn put_private(a: Arguments, world: &mut World<'_>) -> u64
 /// PubAlloc: takes a block of the public heap, and answers its offset or 0.
 #[tactic(auto, unfolding(cv_word::specs::GateStep::work))]
 pub(crate) fn alloc_public(a: Arguments, world: &mut World<'_>) -> u64
-    ensures { (r : Releasers) (m : Memory) → WorkAnswers (work gate.PubAlloc a (read_from m (reads gate.PubAlloc a)) world.old r) result (writes gate.PubAlloc a) m m world.new }
+    ensures { (r : Releasers) (m : Memory) → WorkAnswers (work gate.PubAlloc a (read_from m (reads gate.PubAlloc a)) world.old r) result (writes gate.PubAlloc a) m m world.new r }
 {
     world.public_heap.take(a.first) as u64
 }
@@ -104,7 +104,7 @@ pub(crate) fn alloc_public(a: Arguments, world: &mut World<'_>) -> u64
 /// PrivAlloc: takes a block of the private heap, and answers its offset or 0.
 #[tactic(auto, unfolding(cv_word::specs::GateStep::work))]
 pub(crate) fn alloc_private(a: Arguments, world: &mut World<'_>) -> u64
-    ensures { (r : Releasers) (m : Memory) → WorkAnswers (work gate.PrivAlloc a (read_from m (reads gate.PrivAlloc a)) world.old r) result (writes gate.PrivAlloc a) m m world.new }
+    ensures { (r : Releasers) (m : Memory) → WorkAnswers (work gate.PrivAlloc a (read_from m (reads gate.PrivAlloc a)) world.old r) result (writes gate.PrivAlloc a) m m world.new r }
 {
     world.private_heap.take(a.first) as u64
 }
@@ -112,7 +112,7 @@ pub(crate) fn alloc_private(a: Arguments, world: &mut World<'_>) -> u64
 /// PubFree: gives a block of the public heap back, and answers 1, or 0 where none begins there.
 #[tactic(auto, unfolding(cv_word::specs::GateStep::work))]
 pub(crate) fn free_public(a: Arguments, world: &mut World<'_>) -> u64
-    ensures { (r : Releasers) (m : Memory) → WorkAnswers (work gate.PubFree a (read_from m (reads gate.PubFree a)) world.old r) result (writes gate.PubFree a) m m world.new }
+    ensures { (r : Releasers) (m : Memory) → WorkAnswers (work gate.PubFree a (read_from m (reads gate.PubFree a)) world.old r) result (writes gate.PubFree a) m m world.new r }
 {
     give_back(&mut world.public_heap, a.first) as u64
 }
@@ -120,7 +120,7 @@ pub(crate) fn free_public(a: Arguments, world: &mut World<'_>) -> u64
 /// PrivFree: gives a block of the private heap back, and answers 1, or 0 where none begins there.
 #[tactic(auto, unfolding(cv_word::specs::GateStep::work))]
 pub(crate) fn free_private(a: Arguments, world: &mut World<'_>) -> u64
-    ensures { (r : Releasers) (m : Memory) → WorkAnswers (work gate.PrivFree a (read_from m (reads gate.PrivFree a)) world.old r) result (writes gate.PrivFree a) m m world.new }
+    ensures { (r : Releasers) (m : Memory) → WorkAnswers (work gate.PrivFree a (read_from m (reads gate.PrivFree a)) world.old r) result (writes gate.PrivFree a) m m world.new r }
 {
     give_back(&mut world.private_heap, a.first) as u64
 }

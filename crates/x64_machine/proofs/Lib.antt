@@ -1,2 +1,3 @@
-pub mod Faulted
+pub mod StepLemmas
 pub mod Runs
+pub mod StartLemmas

@@ -8,29 +8,31 @@ use Rattle.x64_machine.specs.Run.{Configuration, is_running, step, run}
 use Rattle.x64_machine.specs.Entries.{turns}
 use Rattle.x64_machine.specs.Endings.{progress_of}
 
-step-ended : (i : ℕ) (c : Configuration) → is_running c.outcome ≡ false → step i c ≡ c
+step-ended : (i : ℕ) (c : Configuration) → is_running c.state.outcome ≡ false → step i c ≡ c
 unfolding step
 step-ended i c e = rw e refl
 
 -- an ended run stays as it is under any schedule
-run-ended : (schedule : List ℕ) (c : Configuration) → is_running c.outcome ≡ false → run schedule c ≡ c
+run-ended : (schedule : List ℕ) (c : Configuration) → is_running c.state.outcome ≡ false → run schedule c ≡ c
 run-ended [] c e = refl
 run-ended (i ∷ schedule) c e = ap (λ (d : Configuration). run schedule d) (step-ended i c e) ∙ run-ended schedule c e
 
 ended_not_running : (o : Outcome) → progress_of o ≡ progress.Ended → is_running o ≡ false
 ended_not_running outcome.Running e = absurd (cc)
+ended_not_running (outcome.Exited status) e = refl
 ended_not_running (outcome.Fault core at kind) e = refl
+ended_not_running (outcome.Tape core at class) e = refl
 
 -- where a run ends at an entry, the entries after it change nothing
 pub run_stopped : (i : ℕ) (schedule : List ℕ) (before after : Configuration)
-    → after ≡ step i before → progress_of after.outcome ≡ progress.Ended
+    → after ≡ step i before → progress_of after.state.outcome ≡ progress.Ended
     → after ≡ run (i ∷ schedule) before
 run_stopped i schedule before after e h =
-    sym (run-ended schedule after (ended_not_running after.outcome h)) ∙ ap (λ (c : Configuration). run schedule c) e
+    sym (run-ended schedule after (ended_not_running after.state.outcome h)) ∙ ap (λ (c : Configuration). run schedule c) e
 
 pub bytes_stopped : (k : ℕ) (cores : List ℕ) (first before after : Configuration)
     → k < length cores → run (drop k cores) before ≡ run cores first
-    → after ≡ step (get_or cores k 0) before → progress_of after.outcome ≡ progress.Ended
+    → after ≡ step (get_or cores k 0) before → progress_of after.state.outcome ≡ progress.Ended
     → after ≡ run cores first
 bytes_stopped k cores first before after inside so_far e h =
     run_stopped (get_or cores k 0) (drop (suc k) cores) before after e h
@@ -54,7 +56,7 @@ next_turn n j core next e f =
 
 pub turns_stopped : (n j count core : ℕ) (first before after : Configuration)
     → j < count → core ≡ j % n → run (turns n j (count - j)) before ≡ run (turns n 0 count) first
-    → after ≡ step core before → progress_of after.outcome ≡ progress.Ended
+    → after ≡ step core before → progress_of after.state.outcome ≡ progress.Ended
     → after ≡ run (turns n 0 count) first
 turns_stopped n j count core first before after inside turn so_far e h =
     run_stopped (j % n) (turns n (suc j) (count - suc j)) before after (e ∙ ap (λ (i : ℕ). step i before) turn) h

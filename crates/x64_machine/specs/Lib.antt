@@ -6,6 +6,8 @@ pub use Rattle.cv_word.specs.Arithmetic
 pub use Rattle.x64_decode.specs.Spelling
 pub use Rattle.x64_decode.specs.Reading
 pub use Rattle.cv_word.specs.Memory
+pub use Rattle.cv_word.specs.Heap
+pub use Rattle.cv_word.specs.GateStep
 pub use Rattle.two_segments.specs.Access
 pub use Rattle.x64_alu.specs.CoreStep
 pub use Rattle.magic_words.specs.MagicWords
@@ -21,6 +23,7 @@ pub use Rattle.conf_verify.specs.Rules
 pub use Rattle.conf_verify.specs.Verdict
 pub use Rattle.conf_verify.specs.Answer
 pub mod Run
+pub mod Steps
 pub mod Start
 pub mod Entries
 pub mod Fields

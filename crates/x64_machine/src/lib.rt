@@ -8,11 +8,13 @@
 mod cores;
 mod ended;
 mod machine;
+mod memory;
 mod outcome;
 mod schedule;
+mod step;
 
+pub use cv_word::FaultKind;
 pub use ended::ended_law;
 pub use machine::Machine;
 pub use outcome::Outcome;
 pub use schedule::{Progress, Schedule};
-pub use x64_alu::FaultKind;

@@ -1,5 +1,6 @@
 use Rattle.std.proofs.Common.{◌≡◌, ◌<◌, ◌-◌, ◌%◌, length}
-use Rattle.x64_machine.specs.Run.{run}
+use Rattle.x64_machine.specs.Run.{configuration, run}
+use Rattle.x64_machine.specs.Start.{none}
 use Rattle.x64_machine.specs.Entries.{turns}
 use Rattle.x64_machine.proofs.machine.Machine.run_in_turn.Given as goal
 
@@ -9,5 +10,5 @@ invariant-loop-turn l = record {
   count : l.n ≡ length l.fn.self.cores;
   below : l.core < l.n;
   turn : l.core ≡ l._turn % l.n;
-  rest : run (turns l.n l._turn (l.count - l._turn)) l.self ≡ run (turns l.n 0 l.count) l.fn.self;
+  rest : run (turns l.n l._turn (l.count - l._turn)) (configuration l.self none) ≡ run (turns l.n 0 l.count) (configuration l.fn.self none);
 }
