@@ -52,10 +52,13 @@ zeros_are n i =
       | inr past ↦ subst (λ x. x < 256) (sym (get_or_past (replicate n 0) i 0 (let h = length-replicate {A = ℕ} n 0 in omega arith))) (omega arith)
     ]
 
+pub spliced_are : (xs new : List ℕ) (at : ℕ) → AreBytes xs → AreBytes new → AreBytes (spliced xs at new)
+spliced_are xs new at are fresh =
+    append_bytes (take at xs ++ new) (drop (at + length new) xs)
+    (append_bytes (take at xs) new (take_bytes at xs are) fresh) (drop_bytes (at + length new) xs are)
+
 pub spliced_bytes : (xs : List ℕ) (at count n : ℕ) → AreBytes xs → AreBytes (spliced xs at (word_bytes count n))
-spliced_bytes xs at count n are =
-    append_bytes (take at xs ++ word_bytes count n) (drop (at + length (word_bytes count n)) xs)
-    (append_bytes (take at xs) (word_bytes count n) (take_bytes at xs are) (word_are count n)) (drop_bytes (at + length (word_bytes count n)) xs are)
+spliced_bytes xs at count n are = spliced_are xs (word_bytes count n) at are (word_are count n)
 
 -- ---- the numbers that bytes spell
 

@@ -1,5 +1,5 @@
 -- What stands at an item of an accepted code, and where it leads.
-use Rattle.std.proofs.Common.{◌≡◌, ◌≢◌, ℕ, zero, suc, ◌+◌, ◌-◌, ◌<◌, ◌≤◌, Bool, true, false, ◌&&◌, not, List, [], ◌∷◌, length, drop, get_or, Option, Some, None, refl, sym, ◌∙◌, ap, subst, arith, ◌⊎◌, inl, inr, slice_get, cond, eqb, leb, ◌/◌, ◌%◌, take}
+use Rattle.std.proofs.Common.{◌≡◌, ◌≢◌, ℕ, zero, suc, ◌+◌, ◌-◌, ◌<◌, ◌≤◌, Bool, true, false, ◌&&◌, not, List, [], ◌∷◌, length, drop, get_or, Option, Some, None, refl, sym, ◌∙◌, ap, subst, arith, ◌⊎◌, inl, inr, slice_get, cond, eqb, leb, ◌/◌, ◌%◌, take, map}
 use Rattle.std.specs.Option.{option_or}
 use Rattle.std.proofs.lemmas.List.{drop-drop}
 use Rattle.std.proofs.lemmas.Bool.{cond-true, cond-false, ne_eqb, cases_Bool, cases_eq, false_from_ne_true, and_from, and_parts, true≢false, eqb-true, leb-true, eq-eqb, not-true, not_from_false}
@@ -14,7 +14,8 @@ use Rattle.conf_verify.specs.declared.rule.Rule.{Rule}
 use Rattle.conf_verify.specs.declared.rule.Rule.TheVariants.{V10, V11, V12, V13, V14}
 use Rattle.conf_verify.specs.Rules.{is_word, is_call_word, may_end, IsLast, BreaksEnds, BreaksPrefix, BreaksReturns, BreaksJumps, BreaksCalls, BreaksUnder, FollowsCall, IsGoodTarget, procedure_of, item_breaks}
 use Rattle.cv_word.specs.Words.{AreBytes}
-use Rattle.cv_word.specs.Gates.{gate_bits, gate_bits_at, gate_address}
+use Rattle.cv_word.specs.Gates.{bits_of, gates, gate_at, gate_bits_at}
+use Rattle.cv_word.specs.declared.gates.Gate.{Gate}
 use Rattle.magic_words.specs.MagicWords.{call_word, return_word, IsOccurrence}
 use Rattle.taint_flow.specs.Calls.{procedure_at, call_target, bits_at, callee, is_call}
 use Rattle.taint_flow.proofs.Callees.{bits_are}
@@ -270,23 +271,24 @@ procedure_found : (items : List Placed) (target bits : ℕ) → procedure_at ite
 procedure_found [] target bits e = absurd (none-some bits e)
 procedure_found (x ∷ xs) target bits e = procedure_first x xs target bits (cases_eq (address_after x) target) (procedure_found xs target bits) e
 
--- the gate at an address
-gate_from : (test : Bool) (target bits : ℕ) → leb 0x1000 target && eqb ((target - 0x1000) % 16) 0 ≡ test → cond test (gate_bits ((target - 0x1000) / 16)) None ≡ Some bits →
-    (number : ℕ) × (gate_bits number ≡ Some bits) × (target ≡ gate_address number)
-gate_from false target bits is e = absurd (none-some bits e)
-gate_from true target bits is e =
-    let a = and_parts (leb 0x1000 target) (eqb ((target - 0x1000) % 16) 0) is in
-    let low : 0x1000 ≤ target = leb-true _ _ a.0 in
-    let whole : (target - 0x1000) % 16 ≡ 0 = eqb-true _ _ a.1 in
-    ((target - 0x1000) / 16, e, omega arith)
+-- the gate of which a list of gates has the bits
+gate_among : (gs : List Gate) (k bits : ℕ) → slice_get (map bits_of gs) k ≡ Some bits → (g : Gate) × (slice_get gs k ≡ Some g) × (bits_of g ≡ bits)
+gate_among [] k bits e = absurd (none-some bits e)
+gate_among (g ∷ gs) zero bits e = (g, refl, same_Some (bits_of g) bits e)
+gate_among (g ∷ gs) (suc k) bits e = gate_among gs k bits e
 
-gate_found : (target bits : ℕ) → gate_bits_at target ≡ Some bits → (number : ℕ) × (gate_bits number ≡ Some bits) × (target ≡ gate_address number)
-gate_found target bits e = gate_from (leb 0x1000 target && eqb ((target - 0x1000) % 16) 0) target bits refl e
+gate_from : (test : Bool) (k bits : ℕ) → cond test (slice_get (map bits_of gates) k) None ≡ Some bits →
+    (g : Gate) × (cond test (slice_get gates k) None ≡ Some g) × (bits_of g ≡ bits)
+gate_from true k bits e = gate_among gates k bits e
+gate_from false k bits e = absurd (none-some bits e)
+
+gate_found : (target bits : ℕ) → gate_bits_at target ≡ Some bits → (g : Gate) × (gate_at target ≡ Some g) × (bits_of g ≡ bits)
+gate_found target bits e = gate_from (leb 0x1000 target && eqb ((target - 0x1000) % 16) 0) ((target - 0x1000) / 16) bits e
 
 -- what a direct call goes to: the item behind a call word, or a gate
 pub data Callee (items : List Placed) (bits target : ℕ) : Type 0 where
   procedure : (j : ℕ) (q : Placed) → slice_get items j ≡ Some q → q.item ≡ Call bits → address_after q ≡ target → Callee items bits target
-  gate : (number : ℕ) → gate_bits number ≡ Some bits → target ≡ gate_address number → Callee items bits target
+  gate : (g : Gate) → gate_at target ≡ Some g → bits_of g ≡ bits → Callee items bits target
 
 callee_at : (items : List Placed) (o : Option ℕ) (bits target : ℕ) → procedure_at items target ≡ o → option_or o (gate_bits_at target) ≡ Some bits → Callee items bits target
 callee_at items None bits target is e = let g = gate_found target bits e in gate g.0 g.1 g.2

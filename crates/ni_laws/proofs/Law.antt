@@ -1,5 +1,5 @@
 -- Accepted bytes are noninterfering.
-use Rattle.std.proofs.Common.{◌≡◌, ℕ, zero, suc, ◌+◌, ◌-◌, ◌*◌, Bool, true, ◌&&◌, List, [], ◌∷◌, ◌++◌, length, Some, refl, sym, ◌∙◌, ap, subst, arith, slice_get, eqb}
+use Rattle.std.proofs.Common.{◌≡◌, ℕ, zero, suc, ◌+◌, ◌-◌, ◌*◌, Bool, true, ◌&&◌, List, [], ◌∷◌, ◌++◌, length, Option, Some, None, refl, sym, ◌∙◌, ap, subst, arith, slice_get, eqb}
 use Rattle.std.specs.Prelude.{replicate}
 use Rattle.std.proofs.lemmas.Bool.{and_from, and_parts, true≢false, eq-eqb, eqb-true}
 use Rattle.std.proofs.lemmas.List.{length-set}
@@ -21,13 +21,15 @@ use Rattle.conf_verify.specs.Rules.{is_word, is_call_word, FollowsCallWord}
 use Rattle.conf_verify.specs.Verdict.{IsImage, IsAcceptedImage}
 use Rattle.x64_machine.specs.declared.outcome.Outcome.TheVariants.{Running}
 use Rattle.x64_machine.specs.Run.{run, view}
-use Rattle.x64_machine.specs.Start.{Shared, Secret, start_registers, start_cores, start}
+use Rattle.x64_machine.specs.Start.{Shared, Secret, start_registers, start_cores, start_world, start_releasers, fresh_tape, start}
+use Rattle.cv_word.specs.GateStep.{Tape}
+use Rattle.cv_word.specs.Memory.{items_at}
 use Rattle.cv_word.specs.Memory.{padded}
 use Rattle.cv_word.specs.MemoryMap.{first_mapped}
-use Rattle.ni_laws.specs.Agreement.{HasSixteen, Equal, AtItem, at_item, CoresAlike, agree}
+use Rattle.ni_laws.specs.Agreement.{HasSixteen, Equal, AtItem, at_item, CoresAlike, Common, Apart, agree}
 use Rattle.ni_laws.proofs.Items.{Facts, found, nowhere, search_items}
 use Rattle.ni_laws.proofs.Bytes.{left_bytes, right_bytes, append_bytes, zeros_are}
-use Rattle.ni_laws.proofs.Steps.{landed_word}
+use Rattle.ni_laws.proofs.Landing.{landed_word}
 use Rattle.ni_laws.proofs.Runs.{run_alike, same_view}
 
 -- an entry that breaks no rule follows a call word
@@ -133,6 +135,32 @@ padded_bytes before size bytes are =
     append_bytes (replicate before 0 ++ bytes) (replicate (size - (before + length bytes)) 0)
     (append_bytes (replicate before 0) bytes (zeros_are before) are) (zeros_are (size - (before + length bytes)))
 
+-- a tape at its start
+no_bytes : (i : ℕ) → AreBytes []
+no_bytes n i = omega arith
+
+fresh_bytes : (o : Option (Option Tape)) → ((tape : Tape) → o ≡ Some (Some tape) → AreBytes tape.bytes) → AreBytes (fresh_tape o).left.bytes
+fresh_bytes None are = no_bytes 0
+fresh_bytes (Some None) are = no_bytes 0
+fresh_bytes (Some (Some tape)) are = are tape refl
+
+-- what two starts have in common, and what they may differ in
+abbrev common_of : Image → Shared → Common
+common_of image shared = record {
+  public = padded first_mapped image.seg_size image.public;
+  visible = (start_world image shared.public_input []).visible;
+  held = (start_releasers shared.tapes).held;
+  tapes = (start_releasers shared.tapes).tapes;
+}
+
+abbrev apart_of : Image → Secret → Apart
+apart_of image secret = record {
+  segment = padded first_mapped image.seg_size (items_at secret.segment 0 (image.seg_size - first_mapped));
+  input = secret.private_input;
+  output = [];
+  asked = λ class. [];
+}
+
 pub law_of_image : (image : Image) → IsAcceptedImage image → IsGood image → HasBytes image → (shared : Shared) (mine yours : Secret) (schedule : List ℕ) →
     view (run schedule (start image shared mine)) ≡ view (run schedule (start image shared yours))
 law_of_image image accepted good has shared mine yours schedule =
@@ -142,6 +170,10 @@ law_of_image image accepted good has shared mine yours schedule =
     let cores = start_cores_alike image accepted.items accepted.labels facts 0 image.entries entry_follows in
     same_view image.prefix image.code accepted.items accepted.labels image.seg_size _ _
     (run_alike image.prefix image.code accepted.items accepted.labels facts image.seg_size schedule _ _
-    (agree (start_cores image 0 image.entries) (start_cores image 0 image.entries) (padded first_mapped image.seg_size image.public)
-    (padded first_mapped image.seg_size mine.segment) (padded first_mapped image.seg_size yours.segment) Running cores
-    (padded_bytes first_mapped image.seg_size image.public has.public)))
+    (agree (start_cores image 0 image.entries) (start_cores image 0 image.entries) (common_of image shared) (apart_of image mine) (apart_of image yours) Running cores
+    (record {
+      public = padded_bytes first_mapped image.seg_size image.public has.public;
+      prefix_is = refl;
+      input = shared.input_bytes;
+      tapes = λ class. fresh_bytes (slice_get shared.tapes class) (λ tape is. shared.tape_bytes class tape is);
+    }) refl))

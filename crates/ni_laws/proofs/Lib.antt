@@ -4,6 +4,8 @@ mod Rows
 mod Items
 mod Units
 mod Checks
+mod Landing
+mod GateSteps
 mod Steps
 mod Runs
 mod Law

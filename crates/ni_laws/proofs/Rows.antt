@@ -22,8 +22,8 @@ use Rattle.taint_flow.specs.Calls.{instruction_is_call}
 use Rattle.cv_word.specs.declared.fault.FaultKind.{FaultKind}
 use Rattle.cv_word.specs.declared.fault.FaultKind.TheVariants as fault
 use Rattle.cv_word.specs.Memory.{Memory}
-use Rattle.two_segments.specs.Access.{loaded, stored}
-use Rattle.x64_alu.specs.CoreStep.{Effect, goes, faults, value, put, put_where, flagged, moved_to, holds, alu_result, alu_flags, shift_result, with_low_byte, byte_count, offset_of, goes_on, after_division, after_load, load_into, after_store, target_of, executed}
+use Rattle.two_segments.specs.Access.{byte_count, loaded, stored}
+use Rattle.x64_alu.specs.CoreStep.{Effect, goes, faults, value, put, put_where, flagged, moved_to, holds, alu_result, alu_flags, shift_result, with_low_byte, offset_of, goes_on, after_division, after_load, load_into, after_store, target_of, executed}
 use Rattle.x64_alu.specs.CoreStep as step
 use Rattle.ni_laws.specs.Agreement.{EqualUnder, memory}
 use Rattle.ni_laws.proofs.Registers.{equal_put, equal_put_where, equal_put_own, equal_put_own_where, under_flags, equal_flagged, equal_moved}

@@ -1,5 +1,5 @@
 -- Two runs of an accepted code: configurations that agree still do after a step, so after a run, and show the same.
-use Rattle.std.proofs.Common.{◌≡◌, ℕ, zero, suc, ◌+◌, ◌-◌, Bool, true, false, List, [], ◌∷◌, length, Option, Some, None, refl, sym, ◌∙◌, ap, subst, slice_get, slice_set, cond, map}
+use Rattle.std.proofs.Common.{◌≡◌, ℕ, zero, suc, ◌+◌, ◌-◌, Bool, true, false, List, [], ◌∷◌, length, Option, Some, None, refl, sym, ◌∙◌, ap, subst, slice_get, slice_set, cond, map, ◌&&◌, ◌≤◌, arith}
 use Rattle.std.proofs.lemmas.Bool.{true≢false}
 use Rattle.cv_word.specs.Words.{AreBytes}
 use Rattle.cv_word.specs.MemoryMap.{public_base, private_base, is_in_code, is_mapped}
@@ -20,12 +20,20 @@ use Rattle.code_sweep.specs.declared.item.Placed.{Placed}
 use Rattle.taint_flow.specs.Flow.{Labelling}
 use Rattle.x64_machine.specs.declared.outcome.Outcome.{Outcome}
 use Rattle.x64_machine.specs.declared.outcome.Outcome.TheVariants as outcome
-use Rattle.x64_machine.specs.Run.{Core, Configuration, after_step, step_core, step, run, View, view}
-use Rattle.ni_laws.specs.Agreement.{CoreAlike, CoresAlike, memory, config, Agree, agree}
+use Rattle.std.specs.List.{list_all}
+use Rattle.std.specs.Prelude.{pos}
+use Rattle.cv_word.specs.Gates.{gate_at}
+use Rattle.cv_word.specs.GateStep.{GateEffect, ends_core, exits, runs_out}
+use Rattle.cv_word.specs.MemoryMap.{code_base}
+use Rattle.cv_word.specs.declared.gates.Gate.{Gate}
+use Rattle.x64_machine.specs.Run.{Core, Configuration, after_step, after_gate, after_core_end, outcome_of_ended, step_at, step_core, step, run, View, view, position_of}
+use Rattle.ni_laws.specs.Agreement.{CoreAlike, CoresAlike, Standing, at_item, at_raise, at_stage, at_gate, Common, Apart, memory_of, IsCommon, config, Agree, agree}
 use Rattle.ni_laws.proofs.Bytes.{spliced_bytes}
 use Rattle.ni_laws.proofs.Items.{Facts}
 use Rattle.ni_laws.proofs.Checks.{StepsAlike, both_step, same_fault}
-use Rattle.ni_laws.proofs.Steps.{cores_step}
+use Rattle.ni_laws.proofs.GateSteps.{GatesAlike, both_return, both_stop, both_refuse, gates_step}
+use Rattle.ni_laws.proofs.Steps.{item_alike, raise_alike, stage_alike}
+use Rattle.x64_machine.proofs.StepLemmas.{no_gate_above}
 
 -- ---- public memory holds bytes
 
@@ -124,17 +132,6 @@ alike_set prefix code items labels (x ∷ cs) (y ∷ ds) (suc i) c d a b = (a.0,
 alike_set prefix code items labels [] (y ∷ ds) i c d a b = absurd a
 alike_set prefix code items labels (x ∷ cs) [] i c d a b = absurd a
 
-after_alike : (prefix code : List ℕ) (items : List Placed) (labels : Labelling) (size : ℕ) (cs ds : List Core) (public mine yours : List ℕ) (o : Outcome) (i : ℕ) (c d : Core) (e f : Effect) →
-    CoresAlike prefix code items labels cs ds → AreBytes public → LeavesBytes e → c.ended ≡ d.ended → c.registers.pc ≡ d.registers.pc → StepsAlike prefix code items labels size e f →
-    Agree prefix code items labels size
-    (after_step e i c (config cs (memory size code public mine) o)) (after_step f i d (config ds (memory size code public yours) o))
-after_alike prefix code items labels size cs ds public mine yours o i c d e f a bytes left ended pcs (both_step s t public' mine' yours' counters standing) =
-    agree _ _ public' mine' yours' o (alike_set prefix code items labels cs ds i _ _ a (record { ended = ended; counters = counters; standing = λ h. standing })) left
-after_alike prefix code items labels size cs ds public mine yours o i c d e f a bytes left ended pcs (same_fault kind) =
-    let P : ℕ → Type 0 = λ pc. Agree prefix code items labels size
-    (config cs (memory size code public mine) (outcome.Fault i c.registers.pc kind)) (config ds (memory size code public yours) (outcome.Fault i pc kind)) in
-    subst P pcs (agree cs ds public mine yours (outcome.Fault i c.registers.pc kind) a bytes)
-
 unless : (prefix code : List ℕ) (items : List Placed) (labels : Labelling) (size : ℕ) (a b : Bool) (x y z w : Configuration) → a ≡ b →
     Agree prefix code items labels size x y → (a ≡ false → Agree prefix code items labels size z w) →
     Agree prefix code items labels size (cond a x z) (cond b y w)
@@ -143,24 +140,134 @@ unless prefix code items labels size false false x y z w same ended running = ru
 unless prefix code items labels size true false x y z w same ended running = absurd (true≢false same)
 unless prefix code items labels size false true x y z w same ended running = absurd (true≢false (sym same))
 
-core_steps : (prefix code : List ℕ) (items : List Placed) (labels : Labelling) → Facts prefix code items labels → (size : ℕ) (cs ds : List Core) (public mine yours : List ℕ) (o : Outcome) (i : ℕ) (oc od : Option Core) →
-    CoresAlike prefix code items labels cs ds → AreBytes public → PairAlike prefix code items labels oc od →
-    Agree prefix code items labels size
-    (step_core oc i (config cs (memory size code public mine) o)) (step_core od i (config ds (memory size code public yours) o))
-core_steps prefix code items labels facts size cs ds public mine yours o i oc od a bytes no_core = agree cs ds public mine yours o a bytes
-core_steps prefix code items labels facts size cs ds public mine yours o i oc od a bytes (both_cores c d pair) =
-    unless prefix code items labels size c.ended d.ended _ _ _ _ pair.ended (agree cs ds public mine yours o a bytes)
-    (λ runs. after_alike prefix code items labels size cs ds public mine yours o i c d _ _ a bytes (step_bytes (memory size code public mine) c.registers bytes) pair.ended pair.counters
-    (cores_step prefix code items labels facts size public mine yours c.registers d.registers bytes (pair.standing runs)))
+both_and : {a b c d : Bool} → a ≡ b → c ≡ d → (a && c) ≡ (b && d)
+both_and e f = cc
+
+-- whether all have ended is the same
+ended_alike : (prefix code : List ℕ) (items : List Placed) (labels : Labelling) (cs ds : List Core) → CoresAlike prefix code items labels cs ds →
+    list_all (λ (core : Core). core.ended) cs ≡ list_all (λ (core : Core). core.ended) ds
+ended_alike prefix code items labels [] [] a = refl
+ended_alike prefix code items labels (c ∷ cs) (d ∷ ds) a = both_and a.0.ended (ended_alike prefix code items labels cs ds a.1)
+ended_alike prefix code items labels [] (d ∷ ds) a = absurd a
+ended_alike prefix code items labels (c ∷ cs) [] a = absurd a
+
+ended_outcomes : (prefix code : List ℕ) (items : List Placed) (labels : Labelling) (cs ds : List Core) → CoresAlike prefix code items labels cs ds →
+    outcome_of_ended cs ≡ outcome_of_ended ds
+ended_outcomes prefix code items labels cs ds a =
+    ap (λ (b : Bool). cond b (outcome.Exited (pos 0)) outcome.Running) (ended_alike prefix code items labels cs ds a)
+
+module _ (prefix code : List ℕ) (items : List Placed) (labels : Labelling) (size : ℕ) where
+  -- what an instruction leaves
+  after_alike : (cs ds : List Core) (common : Common) (mine yours : Apart) (o : Outcome) (i : ℕ) (c d : Core) (e f : Effect) →
+      CoresAlike prefix code items labels cs ds → IsCommon prefix common → length mine.output ≡ length yours.output → LeavesBytes e → c.ended ≡ d.ended →
+      c.registers.pc ≡ d.registers.pc → StepsAlike prefix code items labels size e f →
+      Agree prefix code items labels size (after_step e i c (config size code cs common mine o)) (after_step f i d (config size code ds common yours o))
+  after_alike cs ds common mine yours o i c d e f a is outputs left ended pcs (both_step s t public' mine' yours' counters standing) =
+      agree _ _ (record common { public = public' }) (record mine { segment = mine' }) (record yours { segment = yours' }) o
+      (alike_set prefix code items labels cs ds i _ _ a (record { ended = ended; counters = counters; standing = λ h. standing }))
+      (record { public = left; prefix_is = is.prefix_is; input = is.input; tapes = is.tapes }) outputs
+  after_alike cs ds common mine yours o i c d e f a is outputs left ended pcs (same_fault kind) =
+      let P : ℕ → Type 0 = λ pc. Agree prefix code items labels size
+      (config size code cs common mine (outcome.Fault i c.registers.pc kind)) (config size code ds common yours (outcome.Fault i pc kind)) in
+      subst P pcs (agree cs ds common mine yours (outcome.Fault i c.registers.pc kind) a is outputs)
+
+  -- what a core that ends leaves
+  core_end_alike : (cs ds : List Core) (common : Common) (mine yours : Apart) (o : Outcome) (i : ℕ) (c d : Core) →
+      CoresAlike prefix code items labels cs ds → IsCommon prefix common → length mine.output ≡ length yours.output → c.registers.pc ≡ d.registers.pc →
+      Agree prefix code items labels size (after_core_end i c (config size code cs common mine o)) (after_core_end i d (config size code ds common yours o))
+  core_end_alike cs ds common mine yours o i c d a is outputs pcs =
+      let ended : Core → Core = λ core. record core { ended = true } in
+      let cs' : List Core = slice_set cs i (ended c) in
+      let ds' : List Core = slice_set ds i (ended d) in
+      let a' : CoresAlike prefix code items labels cs' ds' =
+      alike_set prefix code items labels cs ds i (ended c) (ended d) a (record { ended = refl; counters = pcs; standing = λ h. absurd (true≢false h) }) in
+      let P : Outcome → Type 0 = λ x. Agree prefix code items labels size
+      (config size code cs' common mine (outcome_of_ended cs')) (config size code ds' common yours x) in
+      subst P (ended_outcomes prefix code items labels cs' ds' a') (agree cs' ds' common mine yours (outcome_of_ended cs') a' is outputs)
+
+  -- what a gate step leaves
+  after_gates : (cs ds : List Core) (common : Common) (mine yours : Apart) (o : Outcome) (i : ℕ) (c d : Core) (e f : GateEffect) →
+      CoresAlike prefix code items labels cs ds → IsCommon prefix common → length mine.output ≡ length yours.output → c.ended ≡ d.ended →
+      c.registers.pc ≡ d.registers.pc → GatesAlike prefix code items labels size e f →
+      Agree prefix code items labels size (after_gate e i c (config size code cs common mine o)) (after_gate f i d (config size code ds common yours o))
+  after_gates cs ds common mine yours o i c d e f a is outputs ended pcs (both_return s t later mine' yours' counters standing is' outputs') =
+      agree _ _ later mine' yours' o
+      (alike_set prefix code items labels cs ds i _ _ a (record { ended = ended; counters = counters; standing = λ h. standing })) is' outputs'
+  after_gates cs ds common mine yours o i c d e f a is outputs ended pcs (both_stop ends_core) =
+      core_end_alike cs ds common mine yours o i c d a is outputs pcs
+  after_gates cs ds common mine yours o i c d e f a is outputs ended pcs (both_stop (exits status)) =
+      agree cs ds common mine yours (outcome.Exited status) a is outputs
+  after_gates cs ds common mine yours o i c d e f a is outputs ended pcs (both_stop (runs_out class)) =
+      let P : ℕ → Type 0 = λ pc. Agree prefix code items labels size
+      (config size code cs common mine (outcome.Tape i c.registers.pc class)) (config size code ds common yours (outcome.Tape i pc class)) in
+      subst P pcs (agree cs ds common mine yours (outcome.Tape i c.registers.pc class) a is outputs)
+  after_gates cs ds common mine yours o i c d e f a is outputs ended pcs (both_refuse kind) =
+      let P : ℕ → Type 0 = λ pc. Agree prefix code items labels size
+      (config size code cs common mine (outcome.Fault i c.registers.pc kind)) (config size code ds common yours (outcome.Fault i pc kind)) in
+      subst P pcs (agree cs ds common mine yours (outcome.Fault i c.registers.pc kind) a is outputs)
+
+  -- at an item or in a unit, which are in the code, an instruction takes effect
+  in_code : (cs ds : List Core) (common : Common) (mine yours : Apart) (o : Outcome) (i : ℕ) (c d : Core) →
+      CoresAlike prefix code items labels cs ds → IsCommon prefix common → length mine.output ≡ length yours.output → c.ended ≡ d.ended →
+      c.registers.pc ≡ d.registers.pc → code_base ≤ c.registers.pc →
+      StepsAlike prefix code items labels size (core_step (memory_of size code common mine) c.registers) (core_step (memory_of size code common yours) d.registers) →
+      Agree prefix code items labels size
+      (step_at (gate_at c.registers.pc) i c (config size code cs common mine o)) (step_at (gate_at d.registers.pc) i d (config size code ds common yours o))
+  in_code cs ds common mine yours o i c d a is outputs ended pcs high steps =
+      let P : Option Gate → Type 0 = λ g. Agree prefix code items labels size
+      (step_at g i c (config size code cs common mine o)) (step_at (gate_at d.registers.pc) i d (config size code ds common yours o)) in
+      let Q : Option Gate → Type 0 = λ g. Agree prefix code items labels size
+      (step_at None i c (config size code cs common mine o)) (step_at g i d (config size code ds common yours o)) in
+      let none : gate_at c.registers.pc ≡ None = no_gate_above c.registers.pc high in
+      subst P (sym none) (subst Q (sym none ∙ ap (λ (x : ℕ). gate_at x) pcs)
+      (after_alike cs ds common mine yours o i c d _ _ a is outputs (step_bytes (memory_of size code common mine) c.registers is.public) ended pcs steps))
+
+  module _ (facts : Facts prefix code items labels) where
+    -- a core of each that runs, wherever they stand
+    stands_alike : (cs ds : List Core) (common : Common) (mine yours : Apart) (o : Outcome) (i : ℕ) (c d : Core) →
+        CoresAlike prefix code items labels cs ds → IsCommon prefix common → length mine.output ≡ length yours.output → c.ended ≡ d.ended →
+        c.registers.pc ≡ d.registers.pc → Standing prefix code items labels c.registers d.registers →
+        Agree prefix code items labels size
+        (step_at (gate_at c.registers.pc) i c (config size code cs common mine o)) (step_at (gate_at d.registers.pc) i d (config size code ds common yours o))
+    stands_alike cs ds common mine yours o i c d a is outputs ended pcs (at_item x) =
+        in_code cs ds common mine yours o i c d a is outputs ended pcs (omega (arith, x.here))
+        (item_alike prefix code items labels facts size common.public mine.segment yours.segment c.registers d.registers is.public x)
+    stands_alike cs ds common mine yours o i c d a is outputs ended pcs (at_raise x) =
+        in_code cs ds common mine yours o i c d a is outputs ended pcs (omega (arith, x.here))
+        (raise_alike prefix code items labels facts size common.public mine.segment yours.segment c.registers d.registers x)
+    stands_alike cs ds common mine yours o i c d a is outputs ended pcs (at_stage stage x) =
+        in_code cs ds common mine yours o i c d a is outputs ended pcs (omega (arith, x.here))
+        (stage_alike prefix code items labels facts size common.public mine.segment yours.segment c.registers d.registers stage x)
+    stands_alike cs ds common mine yours o i c d a is outputs ended pcs (at_gate x) =
+        let P : Option Gate → Type 0 = λ g. Agree prefix code items labels size
+        (step_at g i c (config size code cs common mine o)) (step_at (gate_at d.registers.pc) i d (config size code ds common yours o)) in
+        let Q : Option Gate → Type 0 = λ g. Agree prefix code items labels size
+        (step_at (Some x.gate) i c (config size code cs common mine o)) (step_at g i d (config size code ds common yours o)) in
+        subst P (sym x.here) (subst Q (sym x.here ∙ ap (λ (n : ℕ). gate_at n) pcs)
+        (after_gates cs ds common mine yours o i c d _ _ a is outputs ended pcs
+        (gates_step prefix code items labels facts size x.gate common mine yours c.registers d.registers x.equal is outputs)))
+
+    core_steps : (cs ds : List Core) (common : Common) (mine yours : Apart) (o : Outcome) (i : ℕ) (oc od : Option Core) →
+        CoresAlike prefix code items labels cs ds → IsCommon prefix common → length mine.output ≡ length yours.output → PairAlike prefix code items labels oc od →
+        Agree prefix code items labels size
+        (step_core oc i (config size code cs common mine o)) (step_core od i (config size code ds common yours o))
+    core_steps cs ds common mine yours o i oc od a is outputs no_core = agree cs ds common mine yours o a is outputs
+    core_steps cs ds common mine yours o i oc od a is outputs (both_cores c d pair) =
+        unless prefix code items labels size c.ended d.ended _ _ _ _ pair.ended (agree cs ds common mine yours o a is outputs)
+        (λ runs. stands_alike cs ds common mine yours o i c d a is outputs pair.ended pair.counters (pair.standing runs))
 
 -- THE LAW OF ONE STEP
 pub step_alike : (prefix code : List ℕ) (items : List Placed) (labels : Labelling) → Facts prefix code items labels → (size i : ℕ) (c d : Configuration) →
     Agree prefix code items labels size c d → Agree prefix code items labels size (step i c) (step i d)
 unfolding step
-step_alike prefix code items labels facts size i c d (agree cs ds public mine yours outcome.Running a bytes) =
-    core_steps prefix code items labels facts size cs ds public mine yours outcome.Running i _ _ a bytes (pair_at prefix code items labels cs ds i a)
-step_alike prefix code items labels facts size i c d (agree cs ds public mine yours (outcome.Fault core at kind) a bytes) =
-    agree cs ds public mine yours (outcome.Fault core at kind) a bytes
+step_alike prefix code items labels facts size i c d (agree cs ds common mine yours outcome.Running a is outputs) =
+    core_steps prefix code items labels size facts cs ds common mine yours outcome.Running i _ _ a is outputs (pair_at prefix code items labels cs ds i a)
+step_alike prefix code items labels facts size i c d (agree cs ds common mine yours (outcome.Exited status) a is outputs) =
+    agree cs ds common mine yours (outcome.Exited status) a is outputs
+step_alike prefix code items labels facts size i c d (agree cs ds common mine yours (outcome.Fault core at kind) a is outputs) =
+    agree cs ds common mine yours (outcome.Fault core at kind) a is outputs
+step_alike prefix code items labels facts size i c d (agree cs ds common mine yours (outcome.Tape core at class) a is outputs) =
+    agree cs ds common mine yours (outcome.Tape core at class) a is outputs
 
 -- a whole run
 pub run_alike : (prefix code : List ℕ) (items : List Placed) (labels : Labelling) → Facts prefix code items labels → (size : ℕ) (schedule : List ℕ) (c d : Configuration) →
@@ -183,8 +290,26 @@ same_counters prefix code items labels (c ∷ cs) (d ∷ ds) a = let x = a.0.cou
 same_counters prefix code items labels [] (d ∷ ds) a = absurd a
 same_counters prefix code items labels (c ∷ cs) [] a = absurd a
 
+-- a view by its parts
+abbrev viewed : Common → Outcome → List Bool → List ℕ → ℕ → View
+viewed common o ended counters count = record {
+  outcome = o;
+  ended = ended;
+  counters = counters;
+  public = common.public;
+  public_output = common.visible.public_output;
+  audit = common.visible.audit;
+  public_heap = common.visible.public_heap;
+  private_heap = common.visible.private_heap;
+  public_position = common.visible.public_position;
+  private_position = common.visible.private_position;
+  tape_positions = λ class. position_of (common.tapes class);
+  private_output_length = count;
+}
+
 pub same_view : (prefix code : List ℕ) (items : List Placed) (labels : Labelling) (size : ℕ) (c d : Configuration) → Agree prefix code items labels size c d → view c ≡ view d
-same_view prefix code items labels size c d (agree cs ds public mine yours o a bytes) =
+same_view prefix code items labels size c d (agree cs ds common mine yours o a is outputs) =
     let x = same_ended prefix code items labels cs ds a in let y = same_counters prefix code items labels cs ds a in
-    ap (λ (ended : List Bool). let v : View = record { outcome = o; ended = ended; counters = map (λ (core : Core). core.registers.pc) cs; public = public } in v) x
-    ∙ ap (λ (counters : List ℕ). let v : View = record { outcome = o; ended = map (λ (core : Core). core.ended) ds; counters = counters; public = public } in v) y
+    ap (λ (ended : List Bool). viewed common o ended (map (λ (core : Core). core.registers.pc) cs) (length mine.output)) x
+    ∙ ap (λ (counters : List ℕ). viewed common o (map (λ (core : Core). core.ended) ds) counters (length mine.output)) y
+    ∙ ap (λ (n : ℕ). viewed common o (map (λ (core : Core). core.ended) ds) (map (λ (core : Core). core.registers.pc) ds) n) outputs

@@ -5,7 +5,7 @@ use Rattle.std.proofs.lemmas.Option.{slice_get_within, same_Some, none-some}
 use Rattle.cv_word.specs.Words.{AreBytes, little_endian, widened}
 use Rattle.cv_word.specs.MemoryMap.{code_base, public_base, private_base, is_in_code, is_mapped, operand_offset}
 use Rattle.cv_word.specs.Arithmetic.{subtracted}
-use Rattle.cv_word.specs.Gates.{gate_bits, gate_table, gate_address}
+use Rattle.cv_word.specs.Gates.{gate_at}
 use Rattle.cv_word.specs.declared.registers.Flags.{Flags}
 use Rattle.cv_word.specs.declared.registers.Registers.{Registers}
 use Rattle.x64_decode.specs.Spelling.{number, spelling}
@@ -37,84 +37,9 @@ use Rattle.ni_laws.proofs.Bytes.{four_small}
 use Rattle.ni_laws.proofs.Registers.{moved, weaker, stack_put, inside, entered, returned}
 use Rattle.ni_laws.proofs.Rows.{Lands, Alike, both_go, both_fault, KeepsRules, row, StoresAlike, both_kept, both_stored, stores}
 use Rattle.ni_laws.proofs.Items.{Facts, Next, next_item, chain_item, good_target, kept, keeps_rules, call_at, return_at, word_length, Callee, procedure, gate, called}
+use Rattle.ni_laws.proofs.Landing.{landed, landed_word}
 use Rattle.ni_laws.proofs.Units.{UnitAt, return_parts, call_parts, unit_at, last_of, some_pair}
 use Rattle.ni_laws.proofs.Checks.{StepsAlike, both_step, same_fault, both_fetched, in_unit_moved, in_unit_ten, in_unit_flagged, in_unit_stack, stage_loads, stage_inverts, stage_compares, stage_branches, stage_traps, stage_advances}
-
--- ---- landing
-
--- an instruction behind which another is reached neither ends its procedure nor calls
-falls_on : (ins : Instr) → instruction_falls ins ≡ true → (instruction_ends ins ≡ false) × (instruction_is_call ins ≡ false)
-falls_on (Jmp rel) e = absurd (true≢false (sym e))
-falls_on Ud2 e = absurd (true≢false (sym e))
-falls_on (instr.Call rel) e = absurd (true≢false (sym e))
-falls_on _ e = (refl, refl)
-
--- the cores behind an instruction stand at the start of an item again: at the one behind it ..
-landed_behind : (prefix code : List ℕ) (items : List Placed) (labels : Labelling) → Facts prefix code items labels → (i : ℕ) (p : Placed) (ins : Instr) (s t : Registers) →
-    slice_get items i ≡ Some p → p.item ≡ Plain ins → instruction_falls ins ≡ true → s.pc ≡ address_after p →
-    Equal (left_by ins (labels i)) s t → AtItem items labels s t
-landed_behind prefix code items labels facts i p ins s t stands is falls here e =
-    let on = falls_on ins falls in
-    let next : Next items i p = next_item prefix code items labels facts i p stands (ap may_end is ∙ on.0) (ap is_call is ∙ on.1) in
-    let leads : Leads items i (suc i) = (p, stands, inl (ap falls_through is ∙ falls, refl)) in
-    let below : IsAtMost (left_behind p.item (labels i)) (labels (suc i)) = facts.meets.leads i (suc i) p stands leads in
-    let P : Item → Type 0 = λ item. IsAtMost (left_behind item (labels i)) (labels (suc i)) in
-    record {
-      i = suc i;
-      p = next.q;
-      stands = next.stands;
-      no_word = next.no_word;
-      here = here ∙ sym next.here;
-      equal = weaker (left_by ins (labels i)) (labels (suc i)) s t (subst P is below) e;
-    }
-
--- .. or at its target
-landed_at : (prefix code : List ℕ) (items : List Placed) (labels : Labelling) → Facts prefix code items labels → (i : ℕ) (p : Placed) (ins : Instr) (s t : Registers) →
-    slice_get items i ≡ Some p → p.item ≡ Plain ins → instruction_target ins (address_after p) ≡ Some s.pc →
-    Equal (left_by ins (labels i)) s t → AtItem items labels s t
-landed_at prefix code items labels facts i p ins s t stands is target e =
-    let jumps = ap (λ item. item_target item (address_after p)) is ∙ target in
-    let good = good_target items i s.pc (λ none. facts.jumps p.at (i, p, s.pc, stands, refl, jumps, none)) in
-    let leads : Leads items i good.0 = (p, stands, inr (good.1, good.2, jumps ∙ ap (λ n. Some n) (sym good.3))) in
-    let below : IsAtMost (left_behind p.item (labels i)) (labels good.0) = facts.meets.leads i good.0 p stands leads in
-    let P : Item → Type 0 = λ item. IsAtMost (left_behind item (labels i)) (labels good.0) in
-    record {
-      i = good.0;
-      p = good.1;
-      stands = good.2;
-      no_word = good.4;
-      here = sym good.3;
-      equal = weaker (left_by ins (labels i)) (labels good.0) s t (subst P is below) e;
-    }
-
-landed : (prefix code : List ℕ) (items : List Placed) (labels : Labelling) → Facts prefix code items labels → (i : ℕ) (p : Placed) (ins : Instr) (s t : Registers) →
-    slice_get items i ≡ Some p → p.item ≡ Plain ins → Lands ins (address_after p) s.pc →
-    Equal (left_by ins (labels i)) s t → AtItem items labels s t
-landed prefix code items labels facts i p ins s t stands is (inl behind) e = landed_behind prefix code items labels facts i p ins s t stands is behind.0 behind.1 e
-landed prefix code items labels facts i p ins s t stands is (inr target) e = landed_at prefix code items labels facts i p ins s t stands is target e
-
--- a word neither ends a procedure nor calls
-word_goes_on : (item : Item) → is_word item ≡ true → (may_end item ≡ false) × (is_call item ≡ false)
-word_goes_on (Call bits) e = (refl, refl)
-word_goes_on (Ret bit) e = (refl, refl)
-word_goes_on (Plain i) e = absurd (true≢false (sym e))
-word_goes_on (ReturnUnit bit) e = absurd (true≢false (sym e))
-word_goes_on (CallUnit r bits) e = absurd (true≢false (sym e))
-
--- behind a word the cores stand at an item, with what the word says
-pub landed_word : (prefix code : List ℕ) (items : List Placed) (labels : Labelling) → Facts prefix code items labels → (j : ℕ) (q : Placed) (l : Label) (s t : Registers) →
-    slice_get items j ≡ Some q → is_word q.item ≡ true → said_behind q.item ≡ Some l → s.pc ≡ address_after q → Equal l s t → AtItem items labels s t
-landed_word prefix code items labels facts j q l s t stands word said here e =
-    let on = word_goes_on q.item word in
-    let next : Next items j q = next_item prefix code items labels facts j q stands on.0 on.1 in
-    record {
-      i = suc j;
-      p = next.q;
-      stands = next.stands;
-      no_word = next.no_word;
-      here = here ∙ sym next.here;
-      equal = weaker l (labels (suc j)) s t (facts.meets.words j q l stands said) e;
-    }
 
 -- ---- calls: the push, and where they go
 
@@ -161,8 +86,12 @@ at_callee : (prefix code : List ℕ) (items : List Placed) (labels : Labelling) 
 at_callee prefix code items labels facts bits target s t here e (procedure j q stands is ends) =
     let w = call_is_word items q bits is in
     at_item (landed_word prefix code items labels facts j q (entry_label bits) s t stands w.0 w.1 (here ∙ sym ends) e)
-at_callee prefix code items labels facts bits target s t here e (gate number is at) =
-    at_gate (record { number = number; bits = bits; gate = is; here = here ∙ at; equal = e })
+at_callee prefix code items labels facts bits target s t here e (gate g is same) =
+    at_gate (record {
+      gate = g;
+      here = ap (λ (x : ℕ). gate_at x) here ∙ is;
+      equal = subst (λ (x : ℕ). Equal (entry_label x) s t) (sym same) e;
+    })
 
 -- ---- an instruction
 
@@ -385,28 +314,6 @@ stage_leaves prefix code items labels facts size public mine yours s t a u stand
       | inr k ↦ call_leaves prefix code items labels facts size public mine yours s t a u k.0 k.1 k.2 k.3 k.4
     ]
 
--- ---- at a gate
-
-gate_low : (number bits : ℕ) → gate_bits number ≡ Some bits → gate_address number < code_base
-gate_low number bits e = let h : number < length gate_table = slice_get_within gate_table number bits e in omega arith
-
-outside : (size : ℕ) (code public private : List ℕ) (s : Registers) → s.pc < code_base → core_step (memory size code public private) s ≡ faults fault.Memory
-unfolding core_step
-outside size code public private s low =
-    let P : Bool → Type 0 = λ b. cond b (after_fetch (instruction_in code s.pc) (memory size code public private) s) (faults fault.Memory) ≡ faults fault.Memory in
-    let not_in : is_in_code (length code) s.pc ≡ false = and_left _ _ (lt-leb code_base s.pc low) in
-    subst P (sym not_in) refl
-
-gate_step : (prefix code : List ℕ) (items : List Placed) (labels : Labelling) (size : ℕ) (public mine yours : List ℕ) (s t : Registers) → AtGate s t →
-    StepsAlike prefix code items labels size (core_step (memory size code public mine) s) (core_step (memory size code public yours) t)
-gate_step prefix code items labels size public mine yours s t a =
-    let low : gate_address a.number < code_base = gate_low a.number a.bits a.gate in
-    let mine_low : s.pc < code_base = subst (λ x. x < code_base) (sym a.here) low in
-    let yours_low : t.pc < code_base = subst (λ x. x < code_base) a.equal.under.counters mine_low in
-    let Q : Effect → Type 0 = λ x. StepsAlike prefix code items labels size x (core_step (memory size code public yours) t) in
-    let R : Effect → Type 0 = λ y. StepsAlike prefix code items labels size (faults fault.Memory) y in
-    subst Q (sym (outside size code public mine s mine_low)) (subst R (sym (outside size code public yours t yours_low)) (same_fault fault.Memory))
-
 -- ---- one step of two cores that stand alike
 
 call_or_not : (ins : Instr) → ((rel : ℤ) × (ins ≡ instr.Call rel)) ⊎ (instruction_is_call ins ≡ false)
@@ -443,18 +350,23 @@ stage_step prefix code items labels facts size public mine yours s t at.traps a 
 stage_step prefix code items labels facts size public mine yours s t at.advances a u stands = stage_advances prefix code items labels size public mine yours s t a u facts.limit
 stage_step prefix code items labels facts size public mine yours s t at.leaves a u stands = stage_leaves prefix code items labels facts size public mine yours s t a u stands
 
-pub cores_step : (prefix code : List ℕ) (items : List Placed) (labels : Labelling) → Facts prefix code items labels → (size : ℕ) (public mine yours : List ℕ) (s t : Registers) → AreBytes public →
-    Standing prefix code items labels s t →
-    StepsAlike prefix code items labels size (core_step (memory size code public mine) s) (core_step (memory size code public yours) t)
-cores_step prefix code items labels facts size public mine yours s t bytes (at_item a) =
+-- THE LAW OF AN INSTRUCTION: two cores that stand alike at an item, or inside a unit
+pub item_alike : (prefix code : List ℕ) (items : List Placed) (labels : Labelling) → Facts prefix code items labels → (size : ℕ) (public mine yours : List ℕ) (s t : Registers) → AreBytes public →
+    AtItem items labels s t → StepsAlike prefix code items labels size (core_step (memory size code public mine) s) (core_step (memory size code public yours) t)
+item_alike prefix code items labels facts size public mine yours s t bytes a =
     let p = chain_item prefix code items 0 (length code) a.i a.p facts.listing a.stands in
     item_step prefix code items labels facts size public mine yours s t a bytes a.p.item refl a.no_word p.0 p.1
-cores_step prefix code items labels facts size public mine yours s t bytes (at_raise a) =
+
+pub raise_alike : (prefix code : List ℕ) (items : List Placed) (labels : Labelling) → Facts prefix code items labels → (size : ℕ) (public mine yours : List ℕ) (s t : Registers) →
+    AtRaise items labels s t → StepsAlike prefix code items labels size (core_step (memory size code public mine) s) (core_step (memory size code public yours) t)
+raise_alike prefix code items labels facts size public mine yours s t a =
     let p = chain_item prefix code items 0 (length code) a.i a.p facts.listing a.stands in
     let P : Item → Type 0 = λ item. StandsAt prefix code a.p.at item in
     raise_step prefix code items labels facts size public mine yours s t a (subst P a.unit p.0)
-cores_step prefix code items labels facts size public mine yours s t bytes (at_stage stage a) =
+
+pub stage_alike : (prefix code : List ℕ) (items : List Placed) (labels : Labelling) → Facts prefix code items labels → (size : ℕ) (public mine yours : List ℕ) (s t : Registers) (stage : Stage) →
+    AtStage prefix code items labels stage s t → StepsAlike prefix code items labels size (core_step (memory size code public mine) s) (core_step (memory size code public yours) t)
+stage_alike prefix code items labels facts size public mine yours s t stage a =
     let p = chain_item prefix code items 0 (length code) a.i a.p facts.listing a.stands in
     stage_step prefix code items labels facts size public mine yours s t stage a
     (unit_at prefix code a.p.at a.p.item a.start a.word facts.six facts.prefix_bytes p.0 a.checks) p.0
-cores_step prefix code items labels facts size public mine yours s t bytes (at_gate a) = gate_step prefix code items labels size public mine yours s t a

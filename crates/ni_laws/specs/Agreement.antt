@@ -2,7 +2,9 @@
 use Rattle.std.specs.Prelude.{◌≡◌, ℕ, ◌+◌, ◌^◌, ◌<◌, ◌↔◌, Bool, true, false, List, [], ◌∷◌, length, take, drop, Option, Some, None, slice_get}
 use Rattle.cv_word.specs.Words.{AreBytes, little_endian}
 use Rattle.cv_word.specs.MemoryMap.{code_base}
-use Rattle.cv_word.specs.Gates.{gate_bits, gate_address}
+use Rattle.cv_word.specs.Gates.{bits_of, gate_at}
+use Rattle.cv_word.specs.GateStep.{Visible, World, TapeState, Releasers}
+use Rattle.cv_word.specs.declared.gates.Gate.{Gate}
 use Rattle.cv_word.specs.declared.registers.Registers.{Registers}
 use Rattle.x64_decode.specs.declared.instr.Reg.{Reg}
 use Rattle.x64_decode.specs.declared.instr.Reg.TheVariants.{Rsp, Gpr10, Gpr11}
@@ -135,11 +137,9 @@ pub record AtStage (prefix code : List ℕ) (items : List Placed) (labels : Labe
 
 -- at a gate the arguments whose bit is clear are equal
 pub record AtGate (s t : Registers) : Type 0 where
-  pub number : ℕ
-  pub bits : ℕ
-  pub gate : gate_bits number ≡ Some bits
-  pub here : s.pc ≡ gate_address number
-  pub equal : Equal (entry_label bits) s t
+  pub gate : Gate
+  pub here : gate_at s.pc ≡ Some gate
+  pub equal : Equal (entry_label (bits_of gate)) s t
 
 -- A running core stands at the start of an item that is no word, inside a unit, or at a gate.
 pub data Standing (prefix code : List ℕ) (items : List Placed) (labels : Labelling) (s t : Registers) : Type 0 where
@@ -166,12 +166,48 @@ CoresAlike prefix code items labels (c ∷ cs) [] = ⊥
 abbrev pub memory : ℕ → List ℕ → List ℕ → List ℕ → Memory
 memory size code public private = record { size = size; code = code; public = public; private = private }
 
--- a configuration by its parts
-abbrev pub config : List Core → Memory → Outcome → Configuration
-config cores m o = record { cores = cores; memory = m; outcome = o }
+-- What two runs have in common beside their cores: public memory, what may be seen of the gates' world, which classes have a
+-- releaser, and what is left of the tapes.
+pub record Common : Type 0 where
+  pub public : List ℕ
+  pub visible : Visible
+  pub held : List Bool
+  pub tapes : ℕ → TapeState
 
--- Two configurations of a code agree: their cores are alike, and size, public memory, which holds bytes, and outcome are the
--- same. So their views are equal.
+-- what they may differ in: private memory, the private input and output, and what the classes were asked
+pub record Apart : Type 0 where
+  pub segment : List ℕ
+  pub input : List ℕ
+  pub output : List ℕ
+  pub asked : ℕ → List ℕ
+
+-- the memory, the gates' world and the releasers of one of them
+abbrev pub memory_of : ℕ → List ℕ → Common → Apart → Memory
+memory_of size code common apart = memory size code common.public apart.segment
+
+abbrev pub world_of : Common → Apart → World
+world_of common apart = record { visible = common.visible; private_input = apart.input; private_output = apart.output }
+
+abbrev pub releasers_of : Common → Apart → Releasers
+releasers_of common apart = record { held = common.held; tapes = common.tapes; asked = apart.asked }
+
+-- a configuration by its parts
+abbrev pub config : ℕ → List ℕ → List Core → Common → Apart → Outcome → Configuration
+config size code cores common apart o = record {
+  state = record { cores = cores; memory = memory_of size code common apart; world = world_of common apart; outcome = o };
+  releasers = releasers_of common apart;
+}
+
+-- What two runs have in common is bytes, and the gates look for words of the code's prefix.
+pub record IsCommon (prefix : List ℕ) (common : Common) : Type 0 where
+  pub public : AreBytes common.public
+  pub prefix_is : common.visible.prefix ≡ prefix
+  pub input : AreBytes common.visible.public_input
+  pub tapes : (class : ℕ) → AreBytes (common.tapes class).left.bytes
+
+-- Two configurations of a code agree: their cores are alike; size, outcome and what they have in common are the same; and their
+-- private outputs are of one length. So their views are equal.
 pub data Agree (prefix code : List ℕ) (items : List Placed) (labels : Labelling) (size : ℕ) : Configuration → Configuration → Type 0 where
-  agree : (cs ds : List Core) (public mine yours : List ℕ) (o : Outcome) → CoresAlike prefix code items labels cs ds → AreBytes public →
-      Agree prefix code items labels size (config cs (memory size code public mine) o) (config ds (memory size code public yours) o)
+  agree : (cs ds : List Core) (common : Common) (mine yours : Apart) (o : Outcome) → CoresAlike prefix code items labels cs ds → IsCommon prefix common →
+      length mine.output ≡ length yours.output →
+      Agree prefix code items labels size (config size code cs common mine o) (config size code ds common yours o)

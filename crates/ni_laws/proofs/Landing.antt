@@ -1,0 +1,113 @@
+-- Where control lands behind an item: at the start of an item again.
+use Rattle.std.proofs.Common.{◌≡◌, ℕ, suc, ◌+◌, ◌-◌, ◌%◌, ◌^◌, ◌<◌, Bool, true, false, List, length, take, drop, Option, Some, None, refl, sym, ◌∙◌, ap, subst, arith, ◌⊎◌, inl, inr, slice_get, cond, ℤ, pos}
+use Rattle.std.proofs.lemmas.Bool.{and_left, true≢false, lt-leb}
+use Rattle.std.proofs.lemmas.Option.{slice_get_within, same_Some, none-some}
+use Rattle.cv_word.specs.Words.{AreBytes, little_endian, widened}
+use Rattle.cv_word.specs.MemoryMap.{code_base, public_base, private_base, is_in_code, is_mapped, operand_offset}
+use Rattle.cv_word.specs.Arithmetic.{subtracted}
+use Rattle.cv_word.specs.Gates.{gate_bits, gate_table, gate_address}
+use Rattle.cv_word.specs.declared.registers.Flags.{Flags}
+use Rattle.cv_word.specs.declared.registers.Registers.{Registers}
+use Rattle.x64_decode.specs.Spelling.{number, spelling}
+use Rattle.x64_decode.specs.declared.instr.Reg.{Reg}
+use Rattle.x64_decode.specs.declared.instr.Reg.TheVariants.{Rsp, Gpr10}
+use Rattle.x64_decode.specs.declared.instr.Mem.{Mem}
+use Rattle.x64_decode.specs.declared.instr.Seg.TheVariants.{Fs, Gs}
+use Rattle.x64_decode.specs.declared.instr.AluOp.TheVariants as alu
+use Rattle.x64_decode.specs.declared.instr.Instr.{Instr}
+use Rattle.x64_decode.specs.declared.instr.Instr.TheVariants.{Idiv, Mov, AluImm, Load, LoadZx8, LoadSx8, LoadSx32, Store, CmpFlat, JmpR10, CallR10, Jmp, Ud2}
+use Rattle.x64_decode.specs.declared.instr.Instr.TheVariants as instr
+use Rattle.cv_word.specs.declared.fault.FaultKind.TheVariants as fault
+use Rattle.cv_word.specs.Memory.{Memory}
+use Rattle.two_segments.specs.Access.{loaded, flat_stored}
+use Rattle.x64_alu.specs.CoreStep.{Effect, faults, value, put, flagged, moved_to, alu_result, alu_flags, after_load, after_push, calls, target_of, executed, after_fetch, core_step, instruction_in, offset_of}
+use Rattle.magic_words.specs.MagicWords.{call_word, return_word}
+use Rattle.code_sweep.specs.declared.item.Item.{Item}
+use Rattle.code_sweep.specs.declared.item.Item.TheVariants.{Call, Ret, Plain, ReturnUnit, CallUnit}
+use Rattle.code_sweep.specs.declared.item.Placed.{Placed}
+use Rattle.code_sweep.specs.Listing.{item_bytes, StandsAt}
+use Rattle.taint_flow.specs.Label.{Label, IsAtMost, taint, left_by, entry_label, return_label}
+use Rattle.taint_flow.specs.Flow.{address, address_after, Labelling, Leads, left_behind, falls_through, instruction_falls, instruction_target, item_target, said_behind, passes_private, returns_private, has_private_address}
+use Rattle.taint_flow.specs.Calls.{call_target, item_calls, callee, is_call, instruction_is_call, bits_called, bits_at}
+use Rattle.conf_verify.specs.declared.rule.Rule.TheVariants.{V10, V15, V16}
+use Rattle.conf_verify.specs.Rules.{is_word, may_end, instruction_ends}
+use Rattle.ni_laws.specs.Agreement.{HasSixteen, EqualUnder, Equal, inside_label, AtItem, InUnit, AtRaise, AtStage, AtGate, Stage, Standing, at_item, at_raise, at_stage, at_gate, check_of, WordStands, CoreAlike, CoresAlike, memory, config, Agree, agree}
+use Rattle.ni_laws.specs.Agreement as at
+use Rattle.ni_laws.proofs.Registers.{moved, weaker, stack_put, inside, entered, returned}
+use Rattle.ni_laws.proofs.Rows.{Lands, Alike, both_go, both_fault, KeepsRules, row, StoresAlike, both_kept, both_stored, stores}
+use Rattle.ni_laws.proofs.Items.{Facts, Next, next_item, chain_item, good_target, kept, keeps_rules, call_at, return_at, word_length, Callee, procedure, gate, called}
+
+-- an instruction behind which another is reached neither ends its procedure nor calls
+falls_on : (ins : Instr) → instruction_falls ins ≡ true → (instruction_ends ins ≡ false) × (instruction_is_call ins ≡ false)
+falls_on (Jmp rel) e = absurd (true≢false (sym e))
+falls_on Ud2 e = absurd (true≢false (sym e))
+falls_on (instr.Call rel) e = absurd (true≢false (sym e))
+falls_on _ e = (refl, refl)
+
+-- the cores behind an instruction stand at the start of an item again: at the one behind it ..
+landed_behind : (prefix code : List ℕ) (items : List Placed) (labels : Labelling) → Facts prefix code items labels → (i : ℕ) (p : Placed) (ins : Instr) (s t : Registers) →
+    slice_get items i ≡ Some p → p.item ≡ Plain ins → instruction_falls ins ≡ true → s.pc ≡ address_after p →
+    Equal (left_by ins (labels i)) s t → AtItem items labels s t
+landed_behind prefix code items labels facts i p ins s t stands is falls here e =
+    let on = falls_on ins falls in
+    let next : Next items i p = next_item prefix code items labels facts i p stands (ap may_end is ∙ on.0) (ap is_call is ∙ on.1) in
+    let leads : Leads items i (suc i) = (p, stands, inl (ap falls_through is ∙ falls, refl)) in
+    let below : IsAtMost (left_behind p.item (labels i)) (labels (suc i)) = facts.meets.leads i (suc i) p stands leads in
+    let P : Item → Type 0 = λ item. IsAtMost (left_behind item (labels i)) (labels (suc i)) in
+    record {
+      i = suc i;
+      p = next.q;
+      stands = next.stands;
+      no_word = next.no_word;
+      here = here ∙ sym next.here;
+      equal = weaker (left_by ins (labels i)) (labels (suc i)) s t (subst P is below) e;
+    }
+
+-- .. or at its target
+landed_at : (prefix code : List ℕ) (items : List Placed) (labels : Labelling) → Facts prefix code items labels → (i : ℕ) (p : Placed) (ins : Instr) (s t : Registers) →
+    slice_get items i ≡ Some p → p.item ≡ Plain ins → instruction_target ins (address_after p) ≡ Some s.pc →
+    Equal (left_by ins (labels i)) s t → AtItem items labels s t
+landed_at prefix code items labels facts i p ins s t stands is target e =
+    let jumps = ap (λ item. item_target item (address_after p)) is ∙ target in
+    let good = good_target items i s.pc (λ none. facts.jumps p.at (i, p, s.pc, stands, refl, jumps, none)) in
+    let leads : Leads items i good.0 = (p, stands, inr (good.1, good.2, jumps ∙ ap (λ n. Some n) (sym good.3))) in
+    let below : IsAtMost (left_behind p.item (labels i)) (labels good.0) = facts.meets.leads i good.0 p stands leads in
+    let P : Item → Type 0 = λ item. IsAtMost (left_behind item (labels i)) (labels good.0) in
+    record {
+      i = good.0;
+      p = good.1;
+      stands = good.2;
+      no_word = good.4;
+      here = sym good.3;
+      equal = weaker (left_by ins (labels i)) (labels good.0) s t (subst P is below) e;
+    }
+
+pub landed : (prefix code : List ℕ) (items : List Placed) (labels : Labelling) → Facts prefix code items labels → (i : ℕ) (p : Placed) (ins : Instr) (s t : Registers) →
+    slice_get items i ≡ Some p → p.item ≡ Plain ins → Lands ins (address_after p) s.pc →
+    Equal (left_by ins (labels i)) s t → AtItem items labels s t
+landed prefix code items labels facts i p ins s t stands is (inl behind) e = landed_behind prefix code items labels facts i p ins s t stands is behind.0 behind.1 e
+landed prefix code items labels facts i p ins s t stands is (inr target) e = landed_at prefix code items labels facts i p ins s t stands is target e
+
+-- a word neither ends a procedure nor calls
+word_goes_on : (item : Item) → is_word item ≡ true → (may_end item ≡ false) × (is_call item ≡ false)
+word_goes_on (Call bits) e = (refl, refl)
+word_goes_on (Ret bit) e = (refl, refl)
+word_goes_on (Plain i) e = absurd (true≢false (sym e))
+word_goes_on (ReturnUnit bit) e = absurd (true≢false (sym e))
+word_goes_on (CallUnit r bits) e = absurd (true≢false (sym e))
+
+-- behind a word the cores stand at an item, with what the word says
+pub landed_word : (prefix code : List ℕ) (items : List Placed) (labels : Labelling) → Facts prefix code items labels → (j : ℕ) (q : Placed) (l : Label) (s t : Registers) →
+    slice_get items j ≡ Some q → is_word q.item ≡ true → said_behind q.item ≡ Some l → s.pc ≡ address_after q → Equal l s t → AtItem items labels s t
+landed_word prefix code items labels facts j q l s t stands word said here e =
+    let on = word_goes_on q.item word in
+    let next : Next items j q = next_item prefix code items labels facts j q stands on.0 on.1 in
+    record {
+      i = suc j;
+      p = next.q;
+      stands = next.stands;
+      no_word = next.no_word;
+      here = here ∙ sym next.here;
+      equal = weaker l (labels (suc j)) s t (facts.meets.words j q l stands said) e;
+    }
+
