@@ -1,10 +1,10 @@
 #!/usr/bin/env python3
 """An independent model of the checker, written from the rules in docs/rules.md and the instruction table, for expected values.
 
-`tools/verdicts.py pairs`, `rows` and `words` print tables of crates/conf_verify/src/tests.rt: for each two of the pieces below,
+`tools/verdicts.py pairs`, `rows`, `words` and `entries` print tables of crates/conf_verify/src/tests.rt: for each two of the pieces below,
 one behind the other, the rule that is told and the place in the code; for each row of the instruction table a code that is
-accepted and one that is refused; and what is told where a byte of a word of a code with calls is changed, 0 for acceptance. `tools/verdicts.py
-CODE` prints the verdict of a code in hexadecimal, with an entry at 8.
+accepted and one that is refused; what is told where a byte of a word of a code with calls is changed, 0 for acceptance; and what is
+told of several entries. `tools/verdicts.py CODE [ENTRY..]` prints the verdict of a code in hexadecimal, with these entries, or one at 8.
 """
 import sys
 
@@ -412,9 +412,25 @@ def words():
             print("[" + ", ".join(row) + "],")
 
 
+# entries of a code of two procedures, which begin at 8 and at 18
+TWO = W + UD2 + W + UD2
+ENTRIES = [
+    (8,), (18,), (8, 18), (18, 8), (8, 8), (8, 4), (4, 8), (20, 4), (4, 20), (10, 10), (8, 20, 10), (18, 2 ** 32 - 1),
+    (8, 18, 8, 18, 8, 18, 8, 18), (8, 18, 8, 18, 8, 18, 8, 17), (7, 6, 5, 4, 3, 2, 1, 0), (19, 8, 9, 18, 7, 8, 11, 18),
+]
+
+
+def several():
+    for entries in ENTRIES:
+        told = verdict(TWO, entries)
+        rule, at = (f"Some(Rule::V{told[0]})", f"{told[1]:#x}") if told else ("None", "0")
+        print(f"(&{list(entries)}, {rule}, {at}),")
+
+
 if __name__ == "__main__":
-    if sys.argv[1:] in (["pairs"], ["rows"], ["words"]):
-        {"pairs": pairs, "rows": rows, "words": words}[sys.argv[1]]()
+    tables = {"pairs": pairs, "rows": rows, "words": words, "entries": several}
+    if len(sys.argv) == 2 and sys.argv[1] in tables:
+        tables[sys.argv[1]]()
     else:
-        told = verdict(bytes.fromhex(sys.argv[1]))
+        told = verdict(bytes.fromhex(sys.argv[1]), [int(word, 0) for word in sys.argv[2:]] or [8])
         print("accepted" if told is None else f"refused V{told[0]} at {told[1]:#x}")
