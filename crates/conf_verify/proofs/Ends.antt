@@ -1,5 +1,5 @@
 -- The answers of the check's steps, from what its searches answer.
-use Rattle.std.proofs.Common.{◌≡◌, ℕ, ◌+◌, ◌<◌, ◌≤◌, List, length, get_or, slice_index, Some, sym, ◌∙◌, ap, subst, arith, slice_get}
+use Rattle.std.proofs.Common.{◌≡◌, ℕ, ◌+◌, ◌<◌, ◌≤◌, List, length, get_or, slice_index, sym, ◌∙◌, ap, subst, arith}
 use Rattle.std.proofs.lemmas.Option.{slice_get-get_or, get_or_from_slice_get}
 use Rattle.cv_word.specs.MemoryMap.{code_base}
 use Rattle.magic_words.specs.MagicWords.{AreOccurrences}
@@ -15,13 +15,13 @@ use Rattle.conf_verify.specs.declared.rule.Rule.{Rule}
 use Rattle.conf_verify.specs.declared.rule.Rule.TheVariants.{V4, V9}
 use Rattle.conf_verify.specs.declared.verdict.VerifyError.{VerifyError}
 use Rattle.conf_verify.specs.declared.verdict.VerifyError.TheVariants.{NoMemory, Refused}
-use Rattle.conf_verify.specs.Rules.{BreaksShape, BreaksPrefix, FollowsCallWord, rule_number}
+use Rattle.conf_verify.specs.Rules.{BreaksShape, BreaksPrefix, BreaksEntries, rule_number}
 use Rattle.conf_verify.specs.Search.{BadOccurrence, BadLabel}
 use Rattle.conf_verify.specs.Verdict.{IsImage, HasListing}
 use Rattle.conf_verify.specs.Answer.{IsRefusal}
 use Rattle.conf_verify.specs.Steps.{IsCodeVerdict, IsCodeRefusal, HoldsBelow}
 use Rattle.conf_verify.proofs.Told.{told_code}
-use Rattle.conf_verify.proofs.Steps.{told_prefix, no_prefix, told_entry}
+use Rattle.conf_verify.proofs.Steps.{told_prefix, no_prefix, told_entry, all_hold}
 use Rattle.conf_verify.proofs.Flows.{told_flow}
 
 pub refusal : (image : Image) (error : VerifyError) (rule : Rule) (at : ℕ) → error ≡ Refused rule at → IsCodeVerdict image rule at → IsCodeRefusal image error
@@ -50,11 +50,16 @@ prefix_none image items xs places ys same same' good are none =
     subst (λ (l : List Placed). (place : ℕ) → BreaksPrefix image.prefix image.code l place → ⊥) same
     (no_prefix image xs ys good (subst (λ (l : List ℕ). AreOccurrences image.prefix image.code (length image.code) l) (sym same') are) none)
 
-pub entry_at : (image : Image) (items xs : List Placed) (entries : List ℕ) → xs ≡ items → entries ≡ image.entries → HasListing image items → length image.entries ≡ 1 →
-    (FollowsCallWord xs (slice_index entries 0) → ⊥) → HoldsBelow image items 9 → IsCodeVerdict image V9 (code_base + slice_index entries 0)
-entry_at image items xs entries same same' listing one not below =
-    let e = subst (λ (l : List ℕ). slice_get image.entries 0 ≡ Some (slice_index l 0)) (sym same') (slice_get-get_or image.entries 0 0 (omega (arith, one))) in
-    told_entry image items (slice_index entries 0) listing one e (subst (λ (l : List Placed). FollowsCallWord l (slice_index entries 0) → ⊥) same not) below
+pub entry_at : (image : Image) (items : List Placed) (entries : List ℕ) (entry : ℕ) → entries ≡ image.entries → HasListing image items →
+    BreaksEntries entries items entry × ((other : ℕ) → other < entry → BreaksEntries entries items other → ⊥) → HoldsBelow image items 9 → IsCodeVerdict image V9 (code_base + entry)
+entry_at image items entries entry same listing found below =
+    told_entry image items entry listing
+    (subst (λ (l : List ℕ). BreaksEntries l items entry × ((other : ℕ) → other < entry → BreaksEntries l items other → ⊥)) same found) below
+
+pub entry_none : (image : Image) (items : List Placed) (entries : List ℕ) → entries ≡ image.entries → HoldsBelow image items 9 → ((place : ℕ) → BreaksEntries entries items place → ⊥) →
+    (rule : Rule) (place : ℕ) → BreaksShape rule image items place → ⊥
+entry_none image items entries same below none =
+    all_hold image items below (subst (λ (l : List ℕ). (place : ℕ) → BreaksEntries l items place → ⊥) same none)
 
 pub flow_at : (image : Image) (items : List Placed) (labels : List LabelBits) (i : ℕ) (d : Placed) (rule : Rule) → HasListing image items → MeetsFlow items (labelling_of labels) →
     ((any : Labelling) → MeetsFlow items any → (k : ℕ) → IsAtMost (labelling_of labels k) (any k)) → ((other : Rule) (place : ℕ) → BreaksShape other image items place → ⊥) →

@@ -1,5 +1,6 @@
 mod Order
 mod Firsts
+mod Entries
 mod One
 mod Chains
 mod Procedures
@@ -9,6 +10,5 @@ mod LabelRules
 mod Told
 mod Steps
 mod Flows
-mod Forms
 mod Ends
 mod Listings

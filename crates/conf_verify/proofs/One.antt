@@ -10,13 +10,13 @@ use Rattle.code_sweep.specs.declared.item.Item.{Item}
 use Rattle.code_sweep.specs.declared.item.Item.TheVariants.{Call, Ret, Plain, ReturnUnit, CallUnit}
 use Rattle.code_sweep.specs.declared.item.Placed.{Placed}
 use Rattle.code_sweep.specs.Listing.{item_bytes, IsChain, StandsAt, BreaksAt}
-use Rattle.image_form.specs.Image.{Image, spelling}
-use Rattle.image_form.specs.Table.{IsImageFile}
+use Rattle.image_form.specs.Image.{Image}
+use Rattle.image_form.specs.Table.{IsImageFile, IsWrongAt}
 use Rattle.image_form.proofs.Laws.{spelling_is_one, image_has_no_wrong, IsImageFile-spelling}
 use Rattle.conf_verify.specs.declared.rule.Rule.{Rule}
 use Rattle.conf_verify.specs.declared.rule.Rule.TheVariants.{V1, V2, V3, V4, V5, V6, V7, V8, V9, V10, V11, V12, V13, V14, V15, V16}
 use Rattle.conf_verify.specs.Rules.{BreaksShape, BreaksFlow, is_flow_rule}
-use Rattle.conf_verify.specs.Verdict.{IsImage, IsWrongForm, HasListing, Breaks, IsAcceptedImage}
+use Rattle.conf_verify.specs.Verdict.{IsImage, HasListing, Breaks, IsAcceptedImage}
 
 -- ---- one item at a place
 
@@ -120,11 +120,9 @@ no_break prefix code (x ∷ xs) (y ∷ ys) from place c d inside none =
 pub one_image : (bytes : List ℕ) (a b : Image) → IsImage bytes a → IsImage bytes b → a ≡ b
 one_image bytes a b i j = spelling_is_one a b i.good j.good (sym i.spelled ∙ j.spelled)
 
-pub form_is_right : (bytes : List ℕ) (image : Image) (at : ℕ) → IsImage bytes image → IsWrongForm bytes at → ⊥
-unfolding spelling
-form_is_right bytes image at is (inl wrong) =
+pub form_is_right : (bytes : List ℕ) (image : Image) (at : ℕ) → IsImage bytes image → IsWrongAt bytes at → ⊥
+form_is_right bytes image at is wrong =
     image_has_no_wrong bytes at (subst (λ l. IsImageFile l) (sym is.spelled) (IsImageFile-spelling image is.good)) wrong
-form_is_right bytes image at is (inr count) = count.1 (ap (λ l. get_or l 5 0) is.spelled ∙ is.one_entry)
 
 code_is_right : (image : Image) → IsAcceptedImage image → (rule : Rule) (items : List Placed) (place : ℕ) → HasListing image items →
     (BreaksShape rule image items place ⊎ ((is_flow_rule rule ≡ true) × BreaksFlow rule items place)) → ⊥

@@ -15,7 +15,7 @@ use Rattle.taint_flow.specs.Places.{goes_on, NextStands}
 use Rattle.image_form.specs.Image.{Image, IsGood}
 use Rattle.conf_verify.specs.declared.rule.Rule.{Rule}
 use Rattle.conf_verify.specs.declared.rule.Rule.TheVariants.{V3, V4, V5, V6, V7, V8, V9}
-use Rattle.conf_verify.specs.Rules.{BreaksShape, BreaksPrefix, HasReturnWord, fits_result, FollowsCall, FollowsCallWord, IsLast, is_call_word, may_end, is_flow_rule, rule_number}
+use Rattle.conf_verify.specs.Rules.{BreaksShape, BreaksPrefix, HasReturnWord, fits_result, FollowsCall, BreaksEntries, IsLast, is_call_word, may_end, is_flow_rule, rule_number}
 use Rattle.taint_flow.specs.Calls.{callee, call_target, is_call}
 use Rattle.conf_verify.specs.Search.{BadBy, BadEnd, BadReturn, BadJump, BadCall, BadResult, BadOccurrence, is_item_rule}
 use Rattle.conf_verify.specs.Verdict.{HasListing}
@@ -208,14 +208,20 @@ no_prefix image items places good are none place b =
 
 -- ---- V9
 
--- of one entry there is the first alone
-one_only : (entries : List ℕ) (n entry other : ℕ) → length entries ≡ 1 → slice_get entries 0 ≡ Some entry → slice_get entries n ≡ Some other → entry ≡ other
-one_only entries zero entry other one e f = same_Some entry other (sym e ∙ f)
-one_only entries (suc n) entry other one e f = absurd (let h = slice_get_within entries (suc n) other f in omega arith)
-
-pub told_entry : (image : Image) (items : List Placed) (entry : ℕ) → HasListing image items → length image.entries ≡ 1 → slice_get image.entries 0 ≡ Some entry → (FollowsCallWord items entry → ⊥) →
+-- the least bad entry gives the verdict
+pub told_entry : (image : Image) (items : List Placed) (entry : ℕ) → HasListing image items →
+    BreaksEntries image.entries items entry × ((other : ℕ) → other < entry → BreaksEntries image.entries items other → ⊥) →
     HoldsBelow image items 9 → IsCodeVerdict image V9 (code_base + entry)
-told_entry image items entry listing one e not below =
-    told_shape image items listing V9 entry refl (0, entry, e, refl, not)
-    (λ place low b. let same = one_only image.entries b.0 entry b.1 one e b.2 in let at = b.3 in omega arith)
-    below
+told_entry image items entry listing found below = told_shape image items listing V9 entry refl found.0 found.1 below
+
+-- with V9 all of V3 to V9 hold
+pub all_hold : (image : Image) (items : List Placed) → HoldsBelow image items 9 → ((place : ℕ) → BreaksEntries image.entries items place → ⊥) →
+    (rule : Rule) (place : ℕ) → BreaksShape rule image items place → ⊥
+all_hold image items below none V3 place b = below V3 place (omega arith) b
+all_hold image items below none V4 place b = below V4 place (omega arith) b
+all_hold image items below none V5 place b = below V5 place (omega arith) b
+all_hold image items below none V6 place b = below V6 place (omega arith) b
+all_hold image items below none V7 place b = below V7 place (omega arith) b
+all_hold image items below none V8 place b = below V8 place (omega arith) b
+all_hold image items below none V9 place b = none place b
+all_hold image items below none _ place b = b

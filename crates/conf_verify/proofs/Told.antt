@@ -5,16 +5,17 @@ use Rattle.cv_word.specs.MemoryMap.{code_base}
 use Rattle.code_sweep.specs.declared.item.Placed.{Placed}
 use Rattle.code_sweep.specs.Listing.{BreaksAt}
 use Rattle.image_form.specs.Image.{Image}
+use Rattle.image_form.specs.Table.{IsWrongAt}
 use Rattle.conf_verify.specs.declared.rule.Rule.{Rule}
 use Rattle.conf_verify.specs.declared.rule.Rule.TheVariants.{V1, V2, V3, V4, V5, V6, V7, V8, V9, V10, V11, V12, V13, V14, V15, V16}
 use Rattle.conf_verify.specs.Rules.{BreaksShape, BreaksFlow, is_flow_rule, rule_number}
-use Rattle.conf_verify.specs.Verdict.{IsImage, IsWrongForm, HasListing, BreaksCode, Breaks, Precedes, IsBefore, IsVerdict}
+use Rattle.conf_verify.specs.Verdict.{IsImage, HasListing, BreaksCode, Breaks, Precedes, IsBefore, IsVerdict}
 use Rattle.conf_verify.specs.Steps.{IsCodeVerdict, HoldsBelow}
 use Rattle.conf_verify.proofs.Order.{same_number}
 use Rattle.conf_verify.proofs.One.{one_image, one_chain, one_break, no_break, form_is_right}
 
 -- V1: the least wrong place
-only_form : (bytes : List ℕ) (at : ℕ) → ((other : ℕ) → other < at → IsWrongForm bytes other → ⊥) → (rule : Rule) (there : ℕ) → IsBefore rule there V1 at → Breaks rule bytes there → ⊥
+only_form : (bytes : List ℕ) (at : ℕ) → ((other : ℕ) → other < at → IsWrongAt bytes other → ⊥) → (rule : Rule) (there : ℕ) → IsBefore rule there V1 at → Breaks rule bytes there → ⊥
 only_form bytes at least V1 there (inl h) b = omega arith
 only_form bytes at least V1 there (inr h) b = least there h.1 b
 only_form bytes at least V2 there (inl h) b = omega arith
@@ -41,7 +42,7 @@ only_form bytes at least V14 there h b = h
 only_form bytes at least V15 there h b = h
 only_form bytes at least V16 there h b = h
 
-pub told_form : (bytes : List ℕ) (at : ℕ) → IsWrongForm bytes at → ((other : ℕ) → other < at → IsWrongForm bytes other → ⊥) → IsVerdict bytes V1 at
+pub told_form : (bytes : List ℕ) (at : ℕ) → IsWrongAt bytes at → ((other : ℕ) → other < at → IsWrongAt bytes other → ⊥) → IsVerdict bytes V1 at
 told_form bytes at wrong least = record { broken = wrong; first = only_form bytes at least }
 
 -- ---- the bytes of an image break what its code breaks

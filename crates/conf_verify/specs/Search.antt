@@ -1,5 +1,5 @@
--- The first of so many items at which something is bad, by its number.
-use Rattle.std.specs.Prelude.{◌≡◌, ◌≢◌, ◌<◌, ◌≤◌, ℕ, ◌+◌, Bool, true, false, ◌⊎◌, List, length, Option, Some, None, MatchOption, slice_get, slice_index}
+-- The first of so many items at which something is bad, by its number; and the least number that is bad.
+use Rattle.std.specs.Prelude.{◌≡◌, ◌≢◌, ◌<◌, ◌≤◌, ℕ, ◌+◌, min, Bool, true, false, ◌⊎◌, List, length, Option, Some, None, MatchOption, slice_get, slice_index}
 use Rattle.std.specs.Int.{bit_at}
 use Rattle.code_sweep.specs.declared.item.Item.{Item}
 use Rattle.code_sweep.specs.declared.item.Item.TheVariants.{Ret, ReturnUnit}
@@ -19,6 +19,17 @@ abbrev pub first_of : Option ℕ → Bool → ℕ → Option ℕ
 first_of (Some j) bad i = Some j
 first_of None true i = Some i
 first_of None false i = None
+
+-- the answer is the least number that is bad, or None where none is
+abbrev pub IsLeastBad : (ℕ → Type 0) → Option ℕ → Type 0
+IsLeastBad Bad r = MatchOption r ((n : ℕ) → Bad n → ⊥) (λ n. Bad n × ((other : ℕ) → other < n → Bad other → ⊥))
+
+-- what the least bad number is after number n: what it was, or n where that is bad and lower
+abbrev pub least_of : Option ℕ → Bool → ℕ → Option ℕ
+least_of (Some low) true n = Some (min low n)
+least_of (Some low) false n = Some low
+least_of None true n = Some n
+least_of None false n = None
 
 -- an item of the list begins at the place
 abbrev pub BeginsAt : List Placed → Placed → ℕ → Type 0

@@ -1,5 +1,5 @@
 -- The verdict on a list of bytes: accepted, or the rule that is told and where.
-use Rattle.std.specs.Prelude.{◌≡◌, ◌≢◌, ℕ, ◌+◌, ◌<◌, Bool, true, false, ◌⊎◌, List, length, slice_index}
+use Rattle.std.specs.Prelude.{◌≡◌, ℕ, ◌+◌, ◌<◌, Bool, true, false, ◌⊎◌, List}
 use Rattle.cv_word.specs.MemoryMap.{code_base}
 use Rattle.code_sweep.specs.declared.item.Placed.{Placed}
 use Rattle.code_sweep.specs.Listing.{IsListing, BreaksAt}
@@ -10,15 +10,10 @@ use Rattle.conf_verify.specs.declared.rule.Rule.{Rule}
 use Rattle.conf_verify.specs.declared.rule.Rule.TheVariants.{V1, V2}
 use Rattle.conf_verify.specs.Rules.{BreaksShape, BreaksFlow, BreaksUnder, is_flow_rule, rule_number}
 
--- The bytes are those of a good image. So far an image has one entry.
+-- the bytes are those of a good image
 pub record IsImage (bytes : List ℕ) (image : Image) : Type 0 where
   pub good : IsGood image
-  pub one_entry : length image.entries ≡ 1
   pub spelled : bytes ≡ spelling image
-
--- V1: a place of the file where the form is wrong. So far a count of entries other than 1 is wrong at its place.
-abbrev pub IsWrongForm : List ℕ → ℕ → Type 0
-IsWrongForm bytes place = IsWrongAt bytes place ⊎ ((place ≡ 5) × (slice_index bytes 5 ≢ 1))
 
 -- the image's code is this chain of items
 abbrev pub HasListing : Image → List Placed → Type 0
@@ -31,9 +26,9 @@ BreaksCode rule image at =
     (items : List Placed) × (place : ℕ) × HasListing image items × (at ≡ code_base + place) ×
     (BreaksShape rule image items place ⊎ ((is_flow_rule rule ≡ true) × BreaksFlow rule items place))
 
--- Bytes break a rule: V1 at a place in the file, the others at an address.
+-- Bytes break a rule: V1 at a place in the file where the form is wrong, the others at an address.
 abbrev pub Breaks : Rule → List ℕ → ℕ → Type 0
-Breaks V1 bytes at = IsWrongForm bytes at
+Breaks V1 bytes at = IsWrongAt bytes at
 Breaks rule bytes at = (image : Image) × IsImage bytes image × BreaksCode rule image at
 
 -- What is told first: V1 to V9 by their number and then by the place; after these V10 to V16, by the address and then by

@@ -19,7 +19,7 @@ pub enum Rule {
     V7,
     /// A return unit has the bit of its procedure.
     V8,
-    /// An entry stands behind a call word.
+    /// Each entry stands behind a call word.
     V9,
     /// The address of an access to memory is public, and the register of a call unit.
     V10,

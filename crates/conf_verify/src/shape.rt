@@ -3,8 +3,8 @@
 ghost use Rattle.std.specs.Prelude.{◌≡◌, ◌<◌, ◌+◌, ◌≤◌, ℕ, IsTrue, true, false, length, slice_get, slice_index, Some, IfSome, if◌then◌else◌};
 ghost use Rattle.code_sweep.specs.declared.item.Placed.{Placed};
 ghost use Rattle.taint_flow.specs.Places.{NumbersItems, number_at};
-ghost use Rattle.conf_verify.specs.Rules.{is_word, is_call_word, may_end, IsGoodTarget, FollowsCallWord};
-ghost use Rattle.conf_verify.specs.Search.{BeginsAt, IsBorder, IsFirstBad, IsProcedure, BadEnd, BadJump, HasWord, BadOccurrence};
+ghost use Rattle.conf_verify.specs.Rules.{is_word, is_call_word, may_end, IsGoodTarget, FollowsCallWord, BreaksEntries};
+ghost use Rattle.conf_verify.specs.Search.{BeginsAt, IsBorder, IsFirstBad, IsLeastBad, IsProcedure, BadEnd, BadJump, HasWord, BadOccurrence, least_of};
 
 use code_sweep::{Item, Placed};
 use cv_word::CODE_BASE;
@@ -185,7 +185,7 @@ pub fn bad_occurrence(items: &[Placed], numbers: &ItemNumbers<'_>, places: &[u32
 }
 
 /// Whether an entry follows a call word.
-pub fn follows_call_word(items: &[Placed], numbers: &ItemNumbers<'_>, entry: u32) -> bool
+fn follows_call_word(items: &[Placed], numbers: &ItemNumbers<'_>, entry: u32) -> bool
     requires numbers { NumbersItems items.now (number_at numbers.now) }
     requires eight { (i : ℕ) (p : Placed) → slice_get items.now i ≡ Some p → is_call_word p.item ≡ true → p.len ≡ 8 }
     ensures yes { IsTrue result → FollowsCallWord items.now entry }
@@ -198,4 +198,30 @@ pub fn follows_call_word(items: &[Placed], numbers: &ItemNumbers<'_>, entry: u32
         return false;
     };
     is_call_word(&q.item)
+}
+
+/// What the least bad number was before, or `n` where that is bad and lower.
+fn least_of(before: Option<u32>, bad: bool, n: u32) -> Option<u32>
+    ensures { result ≡ least_of before bad n }
+{
+    match before {
+        Some(low) if bad => Some(low.min(n)),
+        None if bad => Some(n),
+        _ => before,
+    }
+}
+
+/// The least of the entries that don't follow a call word.
+pub fn least_bad_entry(items: &[Placed], numbers: &ItemNumbers<'_>, entries: &[u32]) -> Option<u32>
+    requires numbers { NumbersItems items.now (number_at numbers.now) }
+    requires eight { (i : ℕ) (p : Placed) → slice_get items.now i ≡ Some p → is_call_word p.item ≡ true → p.len ≡ 8 }
+    ensures { IsLeastBad (BreaksEntries entries.now items.now) result }
+{
+    let mut least = None;
+    for k in 0..entries.len() {
+        let entry = entries[k];
+        let follows = follows_call_word(items, numbers, entry);
+        least = least_of(least, !follows, entry);
+    }
+    least
 }

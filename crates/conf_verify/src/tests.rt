@@ -86,12 +86,27 @@ const TURNED: [u64; 54] = [
 
 /// An image with one entry at 8, this prefix and this code of at most 255 bytes.
 fn image(alloc: Global, prefix: &[u8; 6], code: &[u8]) -> Result<Vec<u8>, NoMemory> {
+    image_with(alloc, prefix, &[8], code)
+}
+
+/// An image with these entries, at most 255 of them, this prefix and this code of at most 255 bytes.
+fn image_with(
+    alloc: Global,
+    prefix: &[u8; 6],
+    entries: &[u32],
+    code: &[u8],
+) -> Result<Vec<u8>, NoMemory> {
     let mut bytes = Vec::new(alloc);
-    bytes.extend_from_slice(&SMALL[..8])?;
+    bytes.extend_from_slice(&SMALL[..5])?;
+    bytes.push((entries.len() % 256) as u8)?;
+    bytes.extend_from_slice(&SMALL[6..8])?;
     bytes.extend_from_slice(prefix)?;
     bytes.extend_from_slice(&SMALL[14..24])?;
     bytes.push((code.len() % 256) as u8)?;
-    bytes.extend_from_slice(&SMALL[25..44])?;
+    bytes.extend_from_slice(&SMALL[25..40])?;
+    for entry in entries {
+        bytes.extend_from_slice(&entry.to_le_bytes())?;
+    }
     bytes.extend_from_slice(code)?;
     Ok(bytes)
 }
@@ -658,10 +673,79 @@ fn tells_an_occurrence_that_overlaps(rt: HostRuntime) {
     }
 }
 
-/// So far an image has one entry.
+/// A code of two procedures, in which an entry may be 8 or 18.
+const TWO: [u8; 20] =
+    *b"\x0f\x11\xa1\xa2\xa3\xa4\xa5\xa6\x0f\x0b\x0f\x11\xa1\xa2\xa3\xa4\xa5\xa6\x0f\x0b";
+
+/// Entries of that code, and what they break by `tools/verdicts.py entries`.
+static ENTRIES: [(&[u32], Option<Rule>, u64); 16] = [
+    (&[8], None, 0),
+    (&[18], None, 0),
+    (&[8, 18], None, 0),
+    (&[18, 8], None, 0),
+    (&[8, 8], None, 0),
+    (&[8, 4], Some(Rule::V9), 0x10004),
+    (&[4, 8], Some(Rule::V9), 0x10004),
+    (&[20, 4], Some(Rule::V9), 0x10004),
+    (&[4, 20], Some(Rule::V9), 0x10004),
+    (&[10, 10], Some(Rule::V9), 0x1000a),
+    (&[8, 20, 10], Some(Rule::V9), 0x1000a),
+    (&[18, 0xffff_ffff], Some(Rule::V9), 0x1_0000_ffff),
+    (&[8, 18, 8, 18, 8, 18, 8, 18], None, 0),
+    (&[8, 18, 8, 18, 8, 18, 8, 17], Some(Rule::V9), 0x10011),
+    (&[7, 6, 5, 4, 3, 2, 1, 0], Some(Rule::V9), 0x10000),
+    (&[19, 8, 9, 18, 7, 8, 11, 18], Some(Rule::V9), 0x10007),
+];
+
+/// Each entry is judged, and of bad ones the least is told.
 #[test]
-fn tells_a_second_entry(rt: HostRuntime) {
+fn tells_the_least_bad_entry(rt: HostRuntime) -> Result<(), Fail> {
+    let prefix = [0xa1, 0xa2, 0xa3, 0xa4, 0xa5, 0xa6];
+    for (entries, rule, at) in &ENTRIES {
+        let bytes = image_with(rt.alloc(), &prefix, entries, &TWO)?;
+        assert_eq!(rt;
+            told(rt.alloc(), bytes.as_slice())?,
+            (*rule, *at),
+            "{entries:?}"
+        );
+    }
+    Ok(())
+}
+
+/// An image has 1 to 8 entries, which it holds whole.
+#[test]
+fn tells_a_wrong_count_of_entries(rt: HostRuntime) -> Result<(), Fail> {
+    let prefix = [0xa1, 0xa2, 0xa3, 0xa4, 0xa5, 0xa6];
+    for entries in [&[][..], &[8; 9][..], &[18; 200][..]] {
+        let bytes = image_with(rt.alloc(), &prefix, entries, &TWO)?;
+        assert_eq!(rt; told(rt.alloc(), bytes.as_slice())?, (Some(Rule::V1), 5));
+    }
     let mut bytes = SMALL;
     bytes[5] = 2;
-    assert_eq!(rt; told(rt.alloc(), &bytes), Ok((Some(Rule::V1), 5)));
+    assert_eq!(rt; told(rt.alloc(), &bytes)?, (Some(Rule::V1), 24));
+    Ok(())
+}
+
+/// A code of two procedures: the first calls the gates at 0x1030 and 0x1000, the second stores a number and goes round.
+const TWO_CORES: &[u8] =
+    b"\x0f\x11\xa1\xa2\xa3\xa4\xa5\xa6\x40\xbf\x00\x10\x00\x00\x40\xbe\x01\x00\x00\x00\x64\x67\x40\x88\xb7\x00\x00\x00\x00\xe8\x0e\x10\xff\xff\x00\x22\xa1\xa2\xa3\xa4\xa5\xa6\x40\xbf\x00\x00\x00\x00\xe8\xcb\x0f\xff\xff\x00\x22\xa1\xa2\xa3\xa4\xa5\xa6\x0f\x0b\x0f\x11\xa1\xa2\xa3\xa4\xa5\xa6\x40\xbf\x00\x10\x00\x00\x40\xbe\x02\x00\x00\x00\x64\x67\x40\x88\xb7\x00\x00\x00\x00\xe9\xfb\xff\xff\xff";
+
+/// An image for two cores is accepted: two call words, two return words, and 11 other items.
+#[test]
+fn accepts_an_image_of_two_entries(rt: HostRuntime) -> Result<(), Fail> {
+    let alloc = rt.alloc();
+    let prefix = [0xa1, 0xa2, 0xa3, 0xa4, 0xa5, 0xa6];
+    let bytes = image_with(alloc, &prefix, &[8, 71], TWO_CORES)?;
+    let verified = verify(alloc, bytes.as_slice())?;
+    assert_eq!(rt;
+        verified.counts(),
+        Counts {
+            procedures: 2,
+            items: 11
+        }
+    );
+    assert_eq!(rt; verified.parts().entries.as_slice(), &[8, 71][..]);
+    let listing = list_items(alloc, bytes.as_slice())?;
+    assert_eq!(rt; listing.items.len(), 15);
+    Ok(())
 }

@@ -16,7 +16,7 @@ ghost use Rattle.conf_verify.specs.Answer.{Checked, image_of, checked_of, HasCou
 
 use crate::first_bad::first_bad;
 use crate::rule::Rule;
-use crate::shape::{bad_occurrence, follows_call_word};
+use crate::shape::{bad_occurrence, least_bad_entry};
 use crate::taint::{bad_label, least_labels};
 use code_sweep::{Listing, Placed, SweepError, sweep};
 use cv_word::{CODE_BASE, NoMemory};
@@ -26,9 +26,6 @@ use std::alloc::Global;
 use std::marker::{Brand, Model};
 use std::sync::ledger::Blank;
 use taint_flow::{ItemNumbers, item_numbers};
-
-/// The place in a file of the number of entries.
-const ENTRY_COUNT: u32 = 5;
 
 /// How many procedures a code has, and how many items that are no words.
 #[derive(Clone, Copy, Debug, PartialEq, Eq)]
@@ -104,43 +101,24 @@ pub fn verify<'a>(alloc: Global, bytes: &'a [u8]) -> Result<Verified<'a>, Verify
     }
 }
 
-/// The parts of an image of one entry, or the least place where the form is wrong.
+/// The parts of an image, or the least place where the form is wrong.
 pub(crate) fn image_at<'a>(bytes: &'a [u8]) -> Result<Parts<'a>, VerifyError>
     ensures image { IfOk result (λ parts. IsImage bytes.now (image_of parts)) }
     ensures refused { IfErr result (λ error. IsRefusal bytes.now error) }
     ensures rule { IfErr result (λ error. IsByListingRule error) }
 {
     match read_image(bytes) {
-        Ok(parts) => {
-            if parts.entries.len() == 1 {
-                Ok(parts)
-            } else {
-                Err(wrong_form(ENTRY_COUNT))
-            }
-        }
-        Err(fault) => {
-            if fault.place > ENTRY_COUNT && bytes[ENTRY_COUNT as usize] != 1 {
-                Err(wrong_form(ENTRY_COUNT))
-            } else {
-                Err(wrong_form(fault.place))
-            }
-        }
+        Ok(parts) => Ok(parts),
+        Err(fault) => Err(VerifyError::Refused {
+            rule: Rule::V1,
+            at: u64::from(fault.place),
+        }),
     }
 }
 
-fn wrong_form(place: u32) -> VerifyError
-    ensures { result ≡ Refused V1 place }
-{
-    VerifyError::Refused {
-        rule: Rule::V1,
-        at: u64::from(place),
-    }
-}
-
-/// The rules on the code of a good image of one entry.
+/// The rules on the code of a good image.
 fn check_code(alloc: Global, parts: &Parts<'_>) -> Result<Counts, VerifyError>
     requires good { IsGood (image_of parts.now) }
-    requires one { length (image_of parts.now).entries ≡ 1 }
     ensures accepted { OnOk result (IsAcceptedImage (image_of parts.now)) }
     ensures counts { IfOk result (λ c. HasCounts (checked_of parts.now c.procedures c.items)) }
     ensures refused { IfErr result (λ error. IsCodeRefusal (image_of parts.now) error) }
@@ -186,7 +164,6 @@ fn check_shape(
     numbers: &ItemNumbers<'_>,
 ) -> Result<Counts, VerifyError>
     requires good { IsGood (image_of parts.now) }
-    requires one { length (image_of parts.now).entries ≡ 1 }
     requires listing { HasListing (image_of parts.now) items.now }
     requires numbers { NumbersItems items.now (number_at numbers.now) }
     ensures holds { OnOk result ((rule : Rule) (place : ℕ) → BreaksShape rule (image_of parts.now) items.now place → ⊥) }
@@ -201,7 +178,7 @@ fn check_shape(
     check_items(parts, items, Rule::V6, first.jump)?;
     check_items(parts, items, Rule::V7, first.call)?;
     check_items(parts, items, Rule::V8, first.result)?;
-    check_entry(parts, items, numbers)?;
+    check_entries(parts, items, numbers)?;
     Ok(Counts {
         procedures: first.procedures,
         items: first.items,
@@ -249,26 +226,22 @@ fn check_prefix(
     }
 }
 
-/// V9: the entry follows a call word.
-fn check_entry(
+/// V9: each entry follows a call word.
+fn check_entries(
     parts: &Parts<'_>,
     items: &[Placed],
     numbers: &ItemNumbers<'_>,
 ) -> Result<(), VerifyError>
     requires good { IsGood (image_of parts.now) }
-    requires one { length (image_of parts.now).entries ≡ 1 }
     requires listing { HasListing (image_of parts.now) items.now }
     requires numbers { NumbersItems items.now (number_at numbers.now) }
     requires below { HoldsBelow (image_of parts.now) items.now 9 }
     ensures holds { OnOk result ((rule : Rule) (place : ℕ) → BreaksShape rule (image_of parts.now) items.now place → ⊥) }
     ensures refused { IfErr result (λ error. IsCodeRefusal (image_of parts.now) error) }
 {
-    let entries = parts.entries.as_slice();
-    let entry = entries[0];
-    if follows_call_word(items, numbers, entry) {
-        Ok(())
-    } else {
-        Err(refused(Rule::V9, entry))
+    match least_bad_entry(items, numbers, parts.entries.as_slice()) {
+        Some(entry) => Err(refused(Rule::V9, entry)),
+        None => Ok(()),
     }
 }
 
