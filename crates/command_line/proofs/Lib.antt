@@ -1,3 +1,4 @@
--- Lemmas on numbers and on the words of a command.
+-- Lemmas on numbers, on definitions and on the words of a command.
 pub mod NumberLemmas
+pub mod DefinitionLemmas
 pub mod WordLemmas

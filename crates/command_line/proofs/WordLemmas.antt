@@ -12,7 +12,7 @@ use Rattle.clap.specs.declared.parser.matches.ArgMatches.{ArgMatches}
 use Rattle.clap.proofs.OnLiterals.{clap_on_literals}
 use Rattle.clap.proofs.WalkLemmas.{both, first_value-rows}
 use Rattle.command_line.specs.Definitions.{verify, run, disasm, value_of}
-use Rattle.command_line.specs.Commands.{Verify, Run, Disasm, HasSteps, IsCommand, IsNoCommand}
+use Rattle.command_line.specs.Commands.{Verify, Run, RunFiles, Disasm, HasFiles, HasSteps, IsCommand, IsNoCommand, files_by}
 use Rattle.command_line.specs.Numbers.{IsNumber}
 use Rattle.command_line.proofs.NumberLemmas.{same-number}
 
@@ -64,6 +64,22 @@ module _ (definition : App) (words : List Text) (m : ArgMatches) (are : AreMatch
       sym (ap (option_map (λ (s : Bor Text). s.now)) none) ∙ value_read id answer is ∙ some in
       true≢false (ap (λ (o : Option Text). is_some o) (sym other))
 
+-- two ways to give each option's value that agree name the same files
+files_same : (mine yours : Text → Option Text) → ((id : Text) → mine id ≡ yours id) → files_by mine ≡ files_by yours
+files_same mine yours same = rw (
+  same (codes "schedule"),
+  same (codes "public_input"),
+  same (codes "private_input"),
+  same (codes "private_output"),
+  same (codes "audit"),
+)
+
+-- the words give the options what is read of them
+pub files_are : (words : List Text) (m : ArgMatches) (files : RunFiles) → AreMatches run words m →
+    files ≡ files_by (first_value (found_of m)) → HasFiles run words files
+files_are words m files are read =
+    files_same _ _ (λ id. ap (first_of id) (sym are.rows) ∙ sym (first_value-rows (found_of m) id)) ∙ sym read
+
 -- digits that are no number within the limit give STEPS none
 pub no_steps : (definition : App) (words : List Text) (digits : Text) (steps : ℕ) →
     value_of definition words (codes "STEPS") ≡ Some digits →
@@ -80,17 +96,17 @@ other_word mine yours differ same =
 pub only_verify : (words : List Text) → slice_get words 0 ≡ Some verify.top.name →
     ((name : Text) → IsCommand words (Verify name) → ⊥) → IsNoCommand words
 only_verify words own none (Verify name) said = none name said
-only_verify words own none (Run name steps) said = other_word verify.top.name run.top.name refl (sym own ∙ said.takes.own)
+only_verify words own none (Run name steps files) said = other_word verify.top.name run.top.name refl (sym own ∙ said.takes.own)
 only_verify words own none (Disasm name) said = other_word verify.top.name disasm.top.name refl (sym own ∙ said.takes.own)
 
 pub only_run : (words : List Text) → slice_get words 0 ≡ Some run.top.name →
-    ((name : Text) (steps : ℕ) → IsCommand words (Run name steps) → ⊥) → IsNoCommand words
+    ((name : Text) (steps : ℕ) (files : RunFiles) → IsCommand words (Run name steps files) → ⊥) → IsNoCommand words
 only_run words own none (Verify name) said = other_word run.top.name verify.top.name refl (sym own ∙ said.takes.own)
-only_run words own none (Run name steps) said = none name steps said
+only_run words own none (Run name steps files) said = none name steps files said
 only_run words own none (Disasm name) said = other_word run.top.name disasm.top.name refl (sym own ∙ said.takes.own)
 
 pub only_disasm : (words : List Text) → slice_get words 0 ≡ Some disasm.top.name →
     ((name : Text) → IsCommand words (Disasm name) → ⊥) → IsNoCommand words
 only_disasm words own none (Verify name) said = other_word disasm.top.name verify.top.name refl (sym own ∙ said.takes.own)
-only_disasm words own none (Run name steps) said = other_word disasm.top.name run.top.name refl (sym own ∙ said.takes.own)
+only_disasm words own none (Run name steps files) said = other_word disasm.top.name run.top.name refl (sym own ∙ said.takes.own)
 only_disasm words own none (Disasm name) said = none name said

@@ -2,15 +2,16 @@
 
 ghost use Rattle.std.specs.Prelude.{◌≡◌, ◌↔◌, ℕ, IfOk, IsErr, IsErrOf, List, Some, map, slice_get};
 ghost use Rattle.std.specs.String.{string_bytes};
-ghost use Rattle.clap.specs.Words.{kind_of};
+ghost use Rattle.clap.specs.Words.{first_value, found_of, kind_of};
 ghost use Rattle.clap.specs.declared.error.kind.ErrorKind.TheVariants.{OutOfMemory};
-ghost use Rattle.command_line.specs.Commands.{Command as Said, IsCommand, IsNoCommand, name_of};
+ghost use Rattle.command_line.specs.Commands.{Command as Said, IsCommand, IsNoCommand, files_by, name_of};
 ghost use Rattle.command_line.specs.Definitions.{disasm, run, verify};
-ghost use Rattle.command_line.specs.Words.{command_of};
+ghost use Rattle.command_line.specs.Words.{command_of, files_of};
 ghost use Rattle.command_line.specs.declared.words.WordsFault.TheVariants.{NoMemory};
 
 use crate::definitions;
 use crate::number::number;
+use clap::ArgMatches;
 use clap::error::ErrorKind;
 use std::alloc::{AllocError, Global};
 use thiserror::Error;
@@ -19,11 +20,34 @@ use thiserror::Error;
 #[derive(Clone, Copy, Debug, PartialEq, Eq)]
 pub enum Command<'a> {
     /// `verify NAME`
-    Verify { name: &'a str },
-    /// `run NAME STEPS`
-    Run { name: &'a str, steps: u64 },
+    Verify {
+        name: &'a str,
+    },
+    /// `run NAME STEPS`, with its options
+    Run {
+        name: &'a str,
+        steps: u64,
+        files: RunFiles<'a>,
+    },
     /// `disasm NAME`
-    Disasm { name: &'a str },
+    Disasm {
+        name: &'a str,
+    },
+}
+
+/// The names of the files that the options of `run` give; `None` where an option isn't given.
+#[derive(Clone, Copy, Debug, PartialEq, Eq)]
+pub struct RunFiles<'a> {
+    /// `--schedule FILE`: the order of the cores' steps.
+    pub schedule: Option<&'a str>,
+    /// `--public FILE`: the public input.
+    pub public_input: Option<&'a str>,
+    /// `--private FILE`: the private input.
+    pub private_input: Option<&'a str>,
+    /// `--private-out FILE`: where the private output is saved.
+    pub private_output: Option<&'a str>,
+    /// `--audit FILE`: where the audit is saved.
+    pub audit: Option<&'a str>,
 }
 
 impl<'a> Command<'a> {
@@ -110,7 +134,21 @@ fn run_words<'a>(alloc: Global, words: &'a [String]) -> Result<Command<'a>, Word
     let name = matches.get_str("NAME").ok_or(WordsFault::Usage)?;
     let digits = matches.get_str("STEPS").ok_or(WordsFault::Usage)?;
     let steps = number(digits).ok_or(WordsFault::Usage)?;
-    Ok(Command::Run { name, steps })
+    let files = run_files(&matches);
+    Ok(Command::Run { name, steps, files })
+}
+
+/// The names of the files that the options give.
+fn run_files<'a>(matches: &ArgMatches<'a>) -> RunFiles<'a>
+    ensures { files_of result ≡ files_by (first_value (found_of matches.now)) }
+{
+    RunFiles {
+        schedule: matches.get_str("schedule"),
+        public_input: matches.get_str("public_input"),
+        private_input: matches.get_str("private_input"),
+        private_output: matches.get_str("private_output"),
+        audit: matches.get_str("audit"),
+    }
 }
 
 /// The command of words that begin with `disasm`.
