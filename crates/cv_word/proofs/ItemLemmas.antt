@@ -1,5 +1,5 @@
 -- So many items of a list, from a place on.
-use Rattle.std.proofs.Common.{◌≡◌, ℕ, zero, suc, ◌+◌, ◌-◌, ◌<◌, ◌≤◌, List, [], ◌∷◌, ◌++◌, length, take, drop, get_or, replicate, min, refl, sym, ◌∙◌, ap, arith, inl, inr, drop-cons, length-take, length-drop}
+use Rattle.std.proofs.Common.{◌≡◌, ℕ, zero, suc, ◌+◌, ◌-◌, ◌<◌, ◌≤◌, List, ◌∷◌, ◌++◌, length, take, drop, get_or, replicate, min, refl, sym, ◌∙◌, ap, arith, inl, inr, drop-cons, length-take, length-drop}
 use Rattle.std.proofs.lemmas.Bool.{cases_lt}
 use Rattle.std.proofs.lemmas.Grind.{common_steps}
 use Rattle.std.proofs.lemmas.List.{get_or_past}
@@ -84,4 +84,3 @@ filled old xs at start have s h =
     let long : length piece ≡ have = simp (length-take, length-drop) (omega arith) in
     let e : start + have - start ≡ have = omega arith in
     rw (e) (front_of old piece have long (omega arith) ∙ items_at-padded xs at (length old) start have s h)
-

@@ -1,7 +1,7 @@
 -- The results and the four flags of the arithmetic instructions, as equations on whole numbers below 2 ^ 64.
 -- By the Intel manual's ADD, SUB, CMP, AND, OR, XOR, TEST, NEG, IMUL, SHL, SHR, SAR and IDIV, but that a multiplication,
 -- a division and a shift leave all four flags 0: this machine's own choice.
-use Rattle.std.specs.Prelude.{ℕ, ◌+◌, ◌-◌, ◌*◌, ◌/◌, ◌%◌, ◌^◌, Bool, true, false, ◌&&◌, not, ◌==◌, nat_lt, nat_le, if◌then◌else◌, Option, Some, None, ℤ, pos, negsuc, int_div, int_rem}
+use Rattle.std.specs.Prelude.{ℕ, ◌+◌, ◌-◌, ◌*◌, ◌/◌, ◌%◌, ◌^◌, Bool, false, ◌&&◌, not, ◌==◌, nat_lt, nat_le, if◌then◌else◌, Option, Some, None, ℤ, pos, negsuc, int_div, int_rem}
 use Rattle.std.specs.Int.{w64, w128, cast_signed, cast_unsigned}
 use Rattle.cv_word.specs.declared.registers.Flags.{Flags}
 

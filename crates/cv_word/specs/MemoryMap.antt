@@ -1,6 +1,6 @@
 -- The memory map: which flat addresses are code and which are mapped in the two segments. Other addresses, the gates but
 -- for calls, are unmapped. An access is allowed where all its bytes lie in one region.
-use Rattle.std.specs.Prelude.{ℕ, ◌+◌, ◌-◌, ◌%◌, ◌^◌, Bool, ◌&&◌, nat_lt, nat_le, ℤ}
+use Rattle.std.specs.Prelude.{ℕ, ◌+◌, ◌%◌, ◌^◌, Bool, ◌&&◌, nat_lt, nat_le, ℤ}
 use Rattle.cv_word.specs.Words.{widened}
 
 -- the first flat address of the code, and of the public (fs) and the private (gs) segment

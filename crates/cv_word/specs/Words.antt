@@ -1,6 +1,6 @@
 -- Words: lists of bytes whose lowest byte comes first, sums modulo 2 ^ 64, and the signed reading.
-use Rattle.std.specs.Prelude.{◌≡◌, ℕ, zero, suc, ◌+◌, ◌-◌, ◌*◌, ◌/◌, ◌%◌, ◌^◌, ◌<◌, ◌≤◌, ◌⊎◌, List, [], ◌∷◌, ◌++◌, length, take, drop, nat_lt, if◌then◌else◌, slice_index, ℤ}
-use Rattle.std.specs.Int.{w32, w64, cast_unsigned, cast_signed}
+use Rattle.std.specs.Prelude.{◌≡◌, ℕ, zero, suc, ◌+◌, ◌-◌, ◌*◌, ◌/◌, ◌%◌, ◌^◌, ◌<◌, ◌⊎◌, List, [], ◌∷◌, ◌++◌, length, take, drop, nat_lt, if◌then◌else◌, slice_index, ℤ}
+use Rattle.std.specs.Int.{w64, cast_unsigned}
 
 -- each is a byte; a place past the end reads as 0
 abbrev pub AreBytes : List ℕ → Type 0

@@ -1,5 +1,5 @@
 -- Call words and return words among the bytes of a code, and the places of their prefix.
-use Rattle.std.specs.Prelude.{◌≡◌, ℕ, ◌<◌, ◌≤◌, List, ◌∷◌, length, take, drop, slice_index}
+use Rattle.std.specs.Prelude.{◌≡◌, ℕ, ◌<◌, ◌≤◌, List, length, take, drop, slice_index}
 use Rattle.magic_words.specs.declared.word.Word.{Word}
 use Rattle.magic_words.specs.declared.word.Word.TheVariants.{Call, Ret}
 pub use Rattle.cv_word.specs.Marks.{call_word, return_word}

@@ -1,5 +1,5 @@
 -- One gate step of two cores that stand at the same gate with equal public arguments: both go on alike, or both stop alike.
-use Rattle.std.proofs.Common.{◌≡◌, ◌≢◌, ℕ, ◌+◌, ◌-◌, ◌%◌, ◌^◌, ◌<◌, ◌≤◌, Bool, true, false, ◌&&◌, List, ◌++◌, length, take, drop, Option, Some, None, refl, sym, ◌∙◌, ap, subst, arith, cond, nat_eq, ◌==◌, length-append, eqb}
+use Rattle.std.proofs.Common.{◌≡◌, ◌≢◌, ℕ, ◌+◌, ◌-◌, ◌%◌, ◌^◌, ◌<◌, ◌≤◌, Bool, true, false, ◌&&◌, List, ◌++◌, length, take, drop, Option, Some, None, refl, sym, ◌∙◌, ap, subst, arith, cond, nat_eq, ◌==◌, length-append}
 use Rattle.std.specs.Prelude.{nat_le, nat_lt, not, slice_index}
 use Rattle.std.specs.Int.{bit_at, w32, cast_signed}
 use Rattle.std.specs.Str.{bytes_eq}
@@ -10,7 +10,7 @@ use Rattle.cv_word.specs.MemoryMap.{code_base, is_mapped}
 use Rattle.cv_word.specs.Marks.{return_word}
 use Rattle.cv_word.specs.Gates.{bits_of, result_bit}
 use Rattle.cv_word.specs.Memory.{is_good, items_at}
-use Rattle.cv_word.specs.GateStep.{Visible, World, TapeState, Releasers, Ending, ends_core, exits, runs_out, Work, most_output, private_range, answers, ends, GateEffect, goes, stops, faults, gate_step, from_waiting, unless_refused, after_work, work, refusal, reads, writes, read_from, arguments_of, returned, rsp_of, stands_in_code, is_short, advanced, with_class, copied, next_private, after_private, audit_entry}
+use Rattle.cv_word.specs.GateStep.{Visible, TapeState, Ending, ends_core, exits, runs_out, most_output, private_range, answers, ends, GateEffect, goes, stops, faults, gate_step, from_waiting, unless_refused, after_work, work, refusal, reads, writes, read_from, arguments_of, returned, rsp_of, stands_in_code, is_short, advanced, with_class, copied, next_private, after_private, audit_entry}
 use Rattle.cv_word.specs.Heap.{taken_at, after_take, gives, after_give}
 use Rattle.std.specs.Prelude.{unwrap_or}
 use Rattle.cv_word.specs.declared.fault.FaultKind.{FaultKind}
@@ -23,13 +23,12 @@ use Rattle.cv_word.proofs.ItemLemmas.{length-items_at, items_at-bytes}
 use Rattle.x64_decode.specs.Spelling.{number}
 use Rattle.x64_decode.specs.declared.instr.Reg.{Reg}
 use Rattle.x64_decode.specs.declared.instr.Reg.TheVariants as reg
-use Rattle.code_sweep.specs.declared.item.Item.TheVariants.{Ret}
 use Rattle.code_sweep.specs.declared.item.Placed.{Placed}
 use Rattle.taint_flow.specs.Label.{Label, taint, entry_label, return_label}
 use Rattle.taint_flow.specs.Flow.{Labelling, address_after, said_behind}
 use Rattle.conf_verify.specs.Rules.{is_word}
-use Rattle.x64_alu.specs.CoreStep.{value, put, moved_to}
-use Rattle.ni_laws.specs.Agreement.{Equal, EqualUnder, AtGate, Standing, at_item, memory, Common, Apart, memory_of, world_of, releasers_of, IsCommon}
+use Rattle.x64_alu.specs.CoreStep.{value, put}
+use Rattle.ni_laws.specs.Agreement.{Equal, Standing, at_item, memory, Common, Apart, memory_of, world_of, releasers_of, IsCommon}
 use Rattle.ni_laws.proofs.Bytes.{spliced_are, take_bytes, drop_bytes}
 use Rattle.ni_laws.proofs.Items.{Facts, return_at, word_length}
 use Rattle.ni_laws.proofs.Registers.{sixteen_put, value_same, value_other}
@@ -438,20 +437,20 @@ module _ (prefix code : List ℕ) (items : List Placed) (labels : Labelling) (fa
   waited g at common mine yours s t equal is outputs =
       not_found (stands_in_code (memory_of size code common mine) (return_word (result_bit g) common.visible.prefix) at) _ _
       (λ found.
-          let w = word_found at (return_word (result_bit g) common.visible.prefix) common.public mine.segment found in
-          let e : Entered prefix code items labels g (at + 8) common mine yours s t = record {
-            place = w.0;
-            here = ap (λ (x : ℕ). x + 8) w.1;
-            stands = w.2 ∙ ap (λ (p : List ℕ). return_word (result_bit g) p) is.prefix_is;
-            equal = equal;
-            is_common = is;
-            outputs = outputs;
-          } in
-          let P : Option FaultKind → Type 0 = λ o. GatesAlike prefix code items labels size
-          (unless_refused (refusal size g (arguments_of s) (world_of common mine) (releasers_of common mine)) g (at + 8) s (memory_of size code common mine) (world_of common mine) (releasers_of common mine))
-          (unless_refused o g (at + 8) t (memory_of size code common yours) (world_of common yours) (releasers_of common yours)) in
-          subst P (refusals g size common mine yours s t equal outputs)
-          (after_refusals g (at + 8) common mine yours s t e (refusal size g (arguments_of s) (world_of common mine) (releasers_of common mine)))) fault.GateReturn
+      let w = word_found at (return_word (result_bit g) common.visible.prefix) common.public mine.segment found in
+      let e : Entered prefix code items labels g (at + 8) common mine yours s t = record {
+        place = w.0;
+        here = ap (λ (x : ℕ). x + 8) w.1;
+        stands = w.2 ∙ ap (λ (p : List ℕ). return_word (result_bit g) p) is.prefix_is;
+        equal = equal;
+        is_common = is;
+        outputs = outputs;
+      } in
+      let P : Option FaultKind → Type 0 = λ o. GatesAlike prefix code items labels size
+      (unless_refused (refusal size g (arguments_of s) (world_of common mine) (releasers_of common mine)) g (at + 8) s (memory_of size code common mine) (world_of common mine) (releasers_of common mine))
+      (unless_refused o g (at + 8) t (memory_of size code common yours) (world_of common yours) (releasers_of common yours)) in
+      subst P (refusals g size common mine yours s t equal outputs)
+      (after_refusals g (at + 8) common mine yours s t e (refusal size g (arguments_of s) (world_of common mine) (releasers_of common mine)))) fault.GateReturn
 
   -- THE LAW OF A GATE STEP
   pub gates_step : (g : Gate) (common : Common) (mine yours : Apart) (s t : Registers) → Equal (entry_label (bits_of g)) s t → IsCommon prefix common → length mine.output ≡ length yours.output →

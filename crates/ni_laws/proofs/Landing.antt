@@ -1,41 +1,21 @@
 -- Where control lands behind an item: at the start of an item again.
-use Rattle.std.proofs.Common.{◌≡◌, ℕ, suc, ◌+◌, ◌-◌, ◌%◌, ◌^◌, ◌<◌, Bool, true, false, List, length, take, drop, Option, Some, None, refl, sym, ◌∙◌, ap, subst, arith, ◌⊎◌, inl, inr, slice_get, cond, ℤ, pos}
-use Rattle.std.proofs.lemmas.Bool.{and_left, true≢false, lt-leb}
-use Rattle.std.proofs.lemmas.Option.{slice_get_within, same_Some, none-some}
-use Rattle.cv_word.specs.Words.{AreBytes, little_endian, widened}
-use Rattle.cv_word.specs.MemoryMap.{code_base, public_base, private_base, is_in_code, is_mapped, operand_offset}
-use Rattle.cv_word.specs.Arithmetic.{subtracted}
-use Rattle.cv_word.specs.Gates.{gate_bits, gate_table, gate_address}
-use Rattle.cv_word.specs.declared.registers.Flags.{Flags}
+use Rattle.std.proofs.Common.{◌≡◌, ℕ, suc, true, false, List, Some, refl, sym, ◌∙◌, ap, subst, inl, inr, slice_get}
+use Rattle.std.proofs.lemmas.Bool.{true≢false}
 use Rattle.cv_word.specs.declared.registers.Registers.{Registers}
-use Rattle.x64_decode.specs.Spelling.{number, spelling}
-use Rattle.x64_decode.specs.declared.instr.Reg.{Reg}
-use Rattle.x64_decode.specs.declared.instr.Reg.TheVariants.{Rsp, Gpr10}
-use Rattle.x64_decode.specs.declared.instr.Mem.{Mem}
-use Rattle.x64_decode.specs.declared.instr.Seg.TheVariants.{Fs, Gs}
-use Rattle.x64_decode.specs.declared.instr.AluOp.TheVariants as alu
 use Rattle.x64_decode.specs.declared.instr.Instr.{Instr}
 use Rattle.x64_decode.specs.declared.instr.Instr.TheVariants.{Idiv, Mov, AluImm, Load, LoadZx8, LoadSx8, LoadSx32, Store, CmpFlat, JmpR10, CallR10, Jmp, Ud2}
 use Rattle.x64_decode.specs.declared.instr.Instr.TheVariants as instr
-use Rattle.cv_word.specs.declared.fault.FaultKind.TheVariants as fault
-use Rattle.cv_word.specs.Memory.{Memory}
-use Rattle.two_segments.specs.Access.{loaded, flat_stored}
-use Rattle.x64_alu.specs.CoreStep.{Effect, faults, value, put, flagged, moved_to, alu_result, alu_flags, after_load, after_push, calls, target_of, executed, after_fetch, core_step, instruction_in, offset_of}
-use Rattle.magic_words.specs.MagicWords.{call_word, return_word}
 use Rattle.code_sweep.specs.declared.item.Item.{Item}
 use Rattle.code_sweep.specs.declared.item.Item.TheVariants.{Call, Ret, Plain, ReturnUnit, CallUnit}
 use Rattle.code_sweep.specs.declared.item.Placed.{Placed}
-use Rattle.code_sweep.specs.Listing.{item_bytes, StandsAt}
-use Rattle.taint_flow.specs.Label.{Label, IsAtMost, taint, left_by, entry_label, return_label}
-use Rattle.taint_flow.specs.Flow.{address, address_after, Labelling, Leads, left_behind, falls_through, instruction_falls, instruction_target, item_target, said_behind, passes_private, returns_private, has_private_address}
-use Rattle.taint_flow.specs.Calls.{call_target, item_calls, callee, is_call, instruction_is_call, bits_called, bits_at}
-use Rattle.conf_verify.specs.declared.rule.Rule.TheVariants.{V10, V15, V16}
+use Rattle.taint_flow.specs.Label.{Label, IsAtMost, left_by}
+use Rattle.taint_flow.specs.Flow.{address_after, Labelling, Leads, left_behind, falls_through, instruction_falls, instruction_target, item_target, said_behind}
+use Rattle.taint_flow.specs.Calls.{is_call, instruction_is_call}
 use Rattle.conf_verify.specs.Rules.{is_word, may_end, instruction_ends}
-use Rattle.ni_laws.specs.Agreement.{HasSixteen, EqualUnder, Equal, inside_label, AtItem, InUnit, AtRaise, AtStage, AtGate, Stage, Standing, at_item, at_raise, at_stage, at_gate, check_of, WordStands, CoreAlike, CoresAlike, memory, config, Agree, agree}
-use Rattle.ni_laws.specs.Agreement as at
-use Rattle.ni_laws.proofs.Registers.{moved, weaker, stack_put, inside, entered, returned}
-use Rattle.ni_laws.proofs.Rows.{Lands, Alike, both_go, both_fault, KeepsRules, row, StoresAlike, both_kept, both_stored, stores}
-use Rattle.ni_laws.proofs.Items.{Facts, Next, next_item, chain_item, good_target, kept, keeps_rules, call_at, return_at, word_length, Callee, procedure, gate, called}
+use Rattle.ni_laws.specs.Agreement.{Equal, AtItem}
+use Rattle.ni_laws.proofs.Registers.{weaker}
+use Rattle.ni_laws.proofs.Rows.{Lands}
+use Rattle.ni_laws.proofs.Items.{Facts, Next, next_item, good_target}
 
 -- an instruction behind which another is reached neither ends its procedure nor calls
 falls_on : (ins : Instr) → instruction_falls ins ≡ true → (instruction_ends ins ≡ false) × (instruction_is_call ins ≡ false)
@@ -110,4 +90,3 @@ landed_word prefix code items labels facts j q l s t stands word said here e =
       here = here ∙ sym next.here;
       equal = weaker l (labels (suc j)) s t (facts.meets.words j q l stands said) e;
     }
-

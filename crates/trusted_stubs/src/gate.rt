@@ -19,10 +19,15 @@ use x64_decode::{Seg, Width};
 
 /// The registers that the gate step reads and writes, by their numbers.
 const RAX: usize = 0;
+
 const RCX: usize = 1;
+
 const RDX: usize = 2;
+
 const RSP: usize = 4;
+
 const RSI: usize = 6;
+
 const RDI: usize = 7;
 
 /// The gate step of a core: the gate does its work, and the core goes on behind the return word at which it waits. A fault

@@ -49,18 +49,18 @@ impl<'a> World<'a> {
         priv_heap: Heap,
     ) -> Result<World<'a>, NoMemory>
         ensures { IfOk result (λ world. world ≡ record {
-            visible = record {
-                prefix = prefix;
-                public_input = public_in.now;
-                public_position = 0;
-                private_position = 0;
-                public_heap = pub_heap;
-                private_heap = priv_heap;
-                public_output = [];
-                audit = [];
-            };
-            private_input = private_in.now;
-            private_output = [];
+          visible = record {
+            prefix = prefix;
+            public_input = public_in.now;
+            public_position = 0;
+            private_position = 0;
+            public_heap = pub_heap;
+            private_heap = priv_heap;
+            public_output = [];
+            audit = [];
+          };
+          private_input = private_in.now;
+          private_output = [];
         }) }
     {
         Ok(World {

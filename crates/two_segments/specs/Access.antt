@@ -2,7 +2,7 @@
 use Rattle.std.specs.Prelude.{ℕ, ◌-◌, List, take, drop, Option, Some, None, if◌then◌else◌}
 use Rattle.cv_word.specs.Words.{little_endian, word_bytes, spliced}
 use Rattle.cv_word.specs.MemoryMap.{code_base, public_base, private_base, is_mapped}
-use Rattle.cv_word.specs.Memory.{Memory, Range, bytes_of, with_bytes, is_code_word, is_segment_word}
+use Rattle.cv_word.specs.Memory.{Memory, Range, is_code_word, is_segment_word}
 use Rattle.cv_word.specs.declared.registers.Taint.{Taint}
 use Rattle.cv_word.specs.declared.registers.Taint.TheVariants.{Pub, Priv}
 use Rattle.x64_decode.specs.declared.instr.Seg.{Seg}

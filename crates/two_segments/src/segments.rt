@@ -9,9 +9,7 @@ ghost use Rattle.cv_word.specs.MemoryMap.{code_base, is_mapped};
 ghost use Rattle.cv_word.specs.Memory.{is_good, items_at, padded, range_read, range_written, start_memory};
 ghost use Rattle.two_segments.specs.Access.{byte_count, flat_loaded, flat_stored, loaded, range_of, stored};
 
-use cv_word::{
-    CODE_BASE, NoMemory, PRIVATE_BASE, PUBLIC_BASE, copy_items, le32, le64, put_le,
-};
+use cv_word::{CODE_BASE, NoMemory, PRIVATE_BASE, PUBLIC_BASE, copy_items, le32, le64, put_le};
 use std::alloc::Global;
 use std::marker::Model;
 use x64_decode::{Seg, Width};

@@ -12,7 +12,6 @@ use Rattle.x64_decode.specs.declared.instr.Reg.{Reg}
 use Rattle.x64_decode.specs.declared.instr.Reg.TheVariants as reg
 use Rattle.x64_decode.specs.declared.instr.Cond.{Cond}
 use Rattle.x64_decode.specs.declared.instr.Cond.TheVariants as cond
-use Rattle.x64_decode.specs.declared.instr.Width.{Width}
 use Rattle.x64_decode.specs.declared.instr.Mem.{Mem}
 use Rattle.x64_decode.specs.declared.instr.AluOp.{AluOp}
 use Rattle.x64_decode.specs.declared.instr.AluOp.TheVariants as alu

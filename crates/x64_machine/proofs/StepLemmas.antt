@@ -17,7 +17,7 @@ use Rattle.x64_alu.specs.CoreStep.{Effect, goes, faults, StepsTo, core_step, aft
 use Rattle.x64_machine.specs.Run.{Core, Configuration, after_step, after_gate, step_at, step_core, with_outcome}
 use Rattle.x64_machine.specs.Steps.{stepped, running}
 use Rattle.x64_machine.specs.declared.outcome.Outcome.{Outcome}
-use Rattle.x64_machine.specs.declared.outcome.Outcome.TheVariants.{Running, Fault}
+use Rattle.x64_machine.specs.declared.outcome.Outcome.TheVariants.{Fault}
 
 abbrev pub with_registers : Registers → Core → Core
 with_registers r core = record core { registers = r }

@@ -1,7 +1,5 @@
-use Rattle.std.proofs.Common.{ℕ, List, ◌∙◌, refl, rules}
 use Rattle.cv_word.specs.declared.gates.Gate.TheVariants as gate
-use Rattle.cv_word.specs.GateStep.{Releasers}
-use Rattle.trusted_stubs.proofs.WorkLemmas.{IsServed, is_served, no_release, has_room, answered, exited, core_ended}
+use Rattle.trusted_stubs.proofs.WorkLemmas.{is_served, no_release, has_room, answered, exited, core_ended}
 use Rattle.trusted_stubs.proofs.gate.do_work.Goals as goal
 
 pub read_public-requires : goal.read_public-requires
@@ -77,4 +75,3 @@ pub returns-in-PrivFree : goal.returns-in-PrivFree
 returns-in-PrivFree c =
     answered c.args.gate gate.PrivFree c.args.a c.free_private.result c.args.next c.go_on-in-PrivFree.result c.args.regs.now c.go_on-in-PrivFree.new.regs c.args.segs.now c.args.segs.now
     c.args.world.now c.free_private.new.world c.in-PrivFree.is c.go_on-in-PrivFree.ensures.end (λ r. c.free_private.ensures r c.args.segs.now) c.go_on-in-PrivFree.ensures.registers
-
