@@ -1,4 +1,5 @@
 -- Lemmas on the answer of a command and on what it puts.
 pub mod EndingLemmas
-pub mod OneAnswer
+pub mod PlanLemmas
 pub mod RunLemmas
+pub mod OneAnswer

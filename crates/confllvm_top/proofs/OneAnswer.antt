@@ -1,44 +1,50 @@
--- A command has one answer to bytes.
-use Rattle.std.proofs.Common.{◌≡◌, ◌∙◌, ℕ, ◌⊎◌, inl, inr, List, [], length, refl, sym, ap, subst}
+-- A command has one answer to what it has loaded.
+use Rattle.std.proofs.Common.{◌≡◌, ◌∙◌, ℕ, ◌⊎◌, inl, inr, List, [], length, Option, refl, sym, ap, subst}
 use Rattle.image_form.specs.Image.{Image}
 use Rattle.image_form.proofs.Laws.{spelling_is_one}
 use Rattle.conf_verify.specs.declared.rule.Rule.{Rule}
 use Rattle.code_sweep.specs.declared.item.Placed.{Placed}
 use Rattle.conf_verify.specs.Listed.{IsListed, IsUnlisted}
 use Rattle.conf_verify.specs.Verdict.{IsImage, IsAccepted, IsVerdict}
-use Rattle.x64_machine.specs.declared.outcome.Outcome.{Outcome}
-use Rattle.x64_machine.specs.declared.outcome.Outcome.TheVariants as outcome
-use Rattle.x64_machine.specs.declared.schedule.Schedule.TheVariants.{RoundRobin}
-use Rattle.x64_machine.specs.Run.{run}
-use Rattle.x64_machine.specs.Start.{Shared, Secret, start}
-use Rattle.x64_machine.specs.Entries.{entries}
+use Rattle.cv_word.specs.GateStep.{Tape}
+use Rattle.x64_machine.specs.Run.{Configuration, run}
+use Rattle.x64_machine.specs.Start.{start_state, start_releasers}
 use Rattle.confllvm_top.specs.declared.status.Status.{Status}
-use Rattle.confllvm_top.specs.declared.status.Status.TheVariants.{Done, Refused, Usage, StoreFault, SinkFault, Fault, Steps, NoMemory}
-use Rattle.command_line.specs.Commands.{Command, Verify, Run, Disasm}
-use Rattle.confllvm_top.specs.Running.{RunsTo, status_of}
+use Rattle.confllvm_top.specs.declared.status.Status.TheVariants.{Done, Refused, Usage, StoreFault, SinkFault, Fault, Steps, TrustFault, NoMemory}
+use Rattle.command_line.specs.Commands.{Command, RunFiles, Verify, Run, Disasm}
+use Rattle.confllvm_top.specs.Answers.{Answers, EndsRun}
 use Rattle.confllvm_top.specs.Listing.{CanBeListed}
-use Rattle.confllvm_top.specs.Answers.{Answers}
+use Rattle.confllvm_top.specs.Loading.{Loaded}
+use Rattle.confllvm_top.specs.Running.{Finding, RunsTo, finding_of, schedule_of, status_of, used_of}
 use Rattle.confllvm_top.proofs.EndingLemmas.{no_answer}
 
--- ---- one outcome
+-- ---- one finding
 
 one_image : (bytes : List ℕ) (a b : Image) → IsImage bytes a → IsImage bytes b → a ≡ b
 one_image bytes a b i j = spelling_is_one a b i.good j.good (sym i.spelled ∙ j.spelled)
 
-abbrev EndsWith : ℕ → Outcome → Image → Type 0
-EndsWith steps o image = (shared : Shared) (secret : Secret) → secret.segment ≡ image.private →
-    (run (entries (RoundRobin steps) (length image.entries)) (start image shared secret)).outcome ≡ o
+-- what the run of an image comes to, by the parts of its start
+abbrev begun : Image → List ℕ → List (Option Tape) → List ℕ → List ℕ → Configuration
+begun image public tapes segment private = record { state = start_state image public private segment; releasers = start_releasers tapes }
 
-no_input : Shared
-no_input = record { public_input = [] }
+abbrev ended : Loaded → ℕ → RunFiles → Image → List ℕ → List (Option Tape) → List ℕ → List ℕ → Finding
+ended loaded steps files image public tapes segment private =
+    finding_of (run (schedule_of files steps loaded (length image.entries)) (begun image public tapes segment private))
 
-abbrev secret_of : Image → Secret
-secret_of image = record { segment = image.private; private_input = [] }
+found_by : (loaded : Loaded) (steps : ℕ) (files : RunFiles) (f : Finding) (x : RunsTo loaded steps files f) →
+    f ≡ ended loaded steps files x.image loaded.public_input [] x.image.private loaded.private_input
+found_by loaded steps files f x =
+    x.comes_to
+    ∙ ap (λ (l : List ℕ). ended loaded steps files x.image l x.shared.tapes x.secret.segment x.secret.private_input) x.public_input
+    ∙ ap (λ (l : List (Option Tape)). ended loaded steps files x.image loaded.public_input l x.secret.segment x.secret.private_input) x.tapes
+    ∙ ap (λ (l : List ℕ). ended loaded steps files x.image loaded.public_input [] l x.secret.private_input) x.segment
+    ∙ ap (λ (l : List ℕ). ended loaded steps files x.image loaded.public_input [] x.image.private l) x.private_input
 
-one_outcome : (bytes : List ℕ) (steps : ℕ) (o p : Outcome) → RunsTo bytes steps o → RunsTo bytes steps p → o ≡ p
-one_outcome bytes steps o p x y =
-    let yours : EndsWith steps p x.image = subst (λ (i : Image). EndsWith steps p i) (one_image bytes y.image x.image y.is x.is) y.ends in
-    sym (x.ends no_input (secret_of x.image) refl) ∙ yours no_input (secret_of x.image) refl
+one_finding : (loaded : Loaded) (steps : ℕ) (files : RunFiles) (f g : Finding) → RunsTo loaded steps files f → RunsTo loaded steps files g → f ≡ g
+one_finding loaded steps files f g x y =
+    found_by loaded steps files f x
+    ∙ ap (λ (i : Image). ended loaded steps files i loaded.public_input [] i.private loaded.private_input) (one_image loaded.image x.image y.image x.is y.is)
+    ∙ sym (found_by loaded steps files g y)
 
 -- ---- one answer
 
@@ -50,70 +56,97 @@ pub record OneVerdict : Type 0 where
   pub unlisted : (bytes code : List ℕ) (items : List Placed) (rule : Rule) (at : ℕ) → IsListed bytes code items → IsUnlisted bytes rule at → ⊥
 
 -- what a command finds where it refuses nothing
-abbrev Finds : Command → List ℕ → Type 0
-Finds (Verify name) bytes = IsAccepted bytes
-Finds (Run name steps) bytes = IsAccepted bytes
-Finds (Disasm name) bytes = CanBeListed bytes
+abbrev Finds : Command → Loaded → Type 0
+Finds (Verify name) loaded = IsAccepted loaded.image
+Finds (Run name steps files) loaded = IsAccepted loaded.image
+Finds (Disasm name) loaded = CanBeListed loaded.image
 
--- a status with which a command passes bytes
-abbrev Passes : Status → Command → List ℕ → Type 0
-Passes status (Verify name) bytes = status ≡ Done
-Passes status (Run name steps) bytes = (o : Outcome) × RunsTo bytes steps o × (status ≡ status_of steps o)
-Passes status (Disasm name) bytes = status ≡ Done
+-- a status with which a command passes what it has loaded
+abbrev Passes : Status → Command → Loaded → Type 0
+Passes status (Verify name) loaded = status ≡ Done
+Passes status (Run name steps files) loaded = EndsRun status steps files loaded
+Passes status (Disasm name) loaded = status ≡ Done
 
--- a status with which it refuses them, by their verdict
-record Refuses (status : Status) (command : Command) (bytes : List ℕ) : Type 0 where
+-- a status with which it refuses it, by the verdict
+record Refuses (status : Status) (command : Command) (loaded : Loaded) : Type 0 where
   rule : Rule
   at : ℕ
-  verdict : IsVerdict bytes rule at
+  verdict : IsVerdict loaded.image rule at
   is : status ≡ Refused rule at
-  excludes : Finds command bytes → ⊥
+  excludes : Finds command loaded → ⊥
 
 -- an answer refuses the bytes or passes them
-refuses_or_passes : OneVerdict → (status : Status) (command : Command) (bytes : List ℕ) → Answers status command bytes →
-    Refuses status command bytes ⊎ (Finds command bytes × Passes status command bytes)
-refuses_or_passes v (Refused rule at) (Verify name) bytes h =
-    inl (record { rule = rule; at = at; verdict = h; is = refl; excludes = λ found. v.accepted bytes rule at found h })
-refuses_or_passes v (Refused rule at) (Run name steps) bytes h =
-    inl (record { rule = rule; at = at; verdict = h; is = refl; excludes = λ found. v.accepted bytes rule at found h })
-refuses_or_passes v (Refused rule at) (Disasm name) bytes h =
-    inl (record { rule = rule; at = at; verdict = h.verdict; is = refl; excludes = λ found. v.unlisted bytes found.code found.items rule at found.listed h })
-refuses_or_passes v Done (Verify name) bytes h = inr (h, refl)
-refuses_or_passes v Done (Disasm name) bytes h = inr (h, refl)
-refuses_or_passes v (Fault core at kind) (Run name steps) bytes h = inr (h.0, (outcome.Fault core at kind, h.1, refl))
-refuses_or_passes v (Steps used) (Run name steps) bytes h = inr (h.0, (outcome.Running, h.1, ap Steps h.2))
-refuses_or_passes v Done (Run name steps) bytes h = absurd h
-refuses_or_passes v (Fault core at kind) (Verify name) bytes h = absurd h
-refuses_or_passes v (Fault core at kind) (Disasm name) bytes h = absurd h
-refuses_or_passes v (Steps used) (Verify name) bytes h = absurd h
-refuses_or_passes v (Steps used) (Disasm name) bytes h = absurd h
-refuses_or_passes v Usage command bytes h = absurd (no_answer Usage command bytes refl h)
-refuses_or_passes v StoreFault command bytes h = absurd (no_answer StoreFault command bytes refl h)
-refuses_or_passes v SinkFault command bytes h = absurd (no_answer SinkFault command bytes refl h)
-refuses_or_passes v NoMemory command bytes h = absurd (no_answer NoMemory command bytes refl h)
+refuses_or_passes : OneVerdict → (status : Status) (command : Command) (loaded : Loaded) → Answers status command loaded →
+    Refuses status command loaded ⊎ (Finds command loaded × Passes status command loaded)
+refuses_or_passes v (Refused rule at) (Verify name) loaded h =
+    inl (record { rule = rule; at = at; verdict = h; is = refl; excludes = λ found. v.accepted loaded.image rule at found h })
+refuses_or_passes v (Refused rule at) (Run name steps files) loaded h =
+    inl (record { rule = rule; at = at; verdict = h; is = refl; excludes = λ found. v.accepted loaded.image rule at found h })
+refuses_or_passes v (Refused rule at) (Disasm name) loaded h =
+    inl (record { rule = rule; at = at; verdict = h.verdict; is = refl; excludes = λ found. v.unlisted loaded.image found.code found.items rule at found.listed h })
+refuses_or_passes v Done (Verify name) loaded h = inr (h, refl)
+refuses_or_passes v Done (Disasm name) loaded h = inr (h, refl)
+refuses_or_passes v Done (Run name steps files) loaded h = inr (h.accepted, h)
+refuses_or_passes v (Fault core at kind) (Run name steps files) loaded h = inr (h.accepted, h)
+refuses_or_passes v (Steps used) (Run name steps files) loaded h = inr (h.accepted, h)
+refuses_or_passes v (TrustFault class) (Run name steps files) loaded h = inr (h.accepted, h)
+refuses_or_passes v (Fault core at kind) (Verify name) loaded h = absurd h
+refuses_or_passes v (Fault core at kind) (Disasm name) loaded h = absurd h
+refuses_or_passes v (Steps used) (Verify name) loaded h = absurd h
+refuses_or_passes v (Steps used) (Disasm name) loaded h = absurd h
+refuses_or_passes v (TrustFault class) (Verify name) loaded h = absurd h
+refuses_or_passes v (TrustFault class) (Disasm name) loaded h = absurd h
+refuses_or_passes v Usage command loaded h = absurd (no_answer Usage command loaded refl h)
+refuses_or_passes v StoreFault command loaded h = absurd (no_answer StoreFault command loaded refl h)
+refuses_or_passes v SinkFault command loaded h = absurd (no_answer SinkFault command loaded refl h)
+refuses_or_passes v NoMemory command loaded h = absurd (no_answer NoMemory command loaded refl h)
 
 same_refusal : (rule other : Rule) (at there : ℕ) → rule ≡ other → at ≡ there → Refused rule at ≡ Refused other there
 same_refusal rule other at there e f = cc
 
-both_refuse : OneVerdict → (command : Command) (bytes : List ℕ) (mine yours : Status) → Refuses mine command bytes → Refuses yours command bytes → mine ≡ yours
-both_refuse v command bytes mine yours x y =
-    x.is ∙ same_refusal x.rule y.rule x.at y.at (v.rule bytes x.rule y.rule x.at y.at x.verdict y.verdict) (v.place bytes x.rule y.rule x.at y.at x.verdict y.verdict)
+both_refuse : OneVerdict → (command : Command) (loaded : Loaded) (mine yours : Status) → Refuses mine command loaded → Refuses yours command loaded → mine ≡ yours
+both_refuse v command loaded mine yours x y =
+    x.is ∙ same_refusal x.rule y.rule x.at y.at (v.rule loaded.image x.rule y.rule x.at y.at x.verdict y.verdict) (v.place loaded.image x.rule y.rule x.at y.at x.verdict y.verdict)
     ∙ sym y.is
 
-both_pass : (command : Command) (bytes : List ℕ) (mine yours : Status) → Passes mine command bytes → Passes yours command bytes → mine ≡ yours
-both_pass (Verify name) bytes mine yours x y = x ∙ sym y
-both_pass (Run name steps) bytes mine yours x y = x.2 ∙ ap (λ o. status_of steps o) (one_outcome bytes steps x.0 y.0 x.1 y.1) ∙ sym y.2
-both_pass (Disasm name) bytes mine yours x y = x ∙ sym y
+both_pass : (command : Command) (loaded : Loaded) (mine yours : Status) → Passes mine command loaded → Passes yours command loaded → mine ≡ yours
+both_pass (Verify name) loaded mine yours x y = x ∙ sym y
+both_pass (Run name steps files) loaded mine yours x y =
+    x.status_is ∙ ap (λ (f : Finding). status_of (used_of files steps loaded) f.outcome) (one_finding loaded steps files x.finding y.finding x.runs y.runs) ∙ sym y.status_is
+both_pass (Disasm name) loaded mine yours x y = x ∙ sym y
 
-pub one_answer_of : OneVerdict → (command : Command) (bytes : List ℕ) (mine yours : Status) → Answers mine command bytes → Answers yours command bytes → mine ≡ yours
-one_answer_of v command bytes mine yours x y =
-    elim (refuses_or_passes v mine command bytes x) [
-      | inl m ↦ elim (refuses_or_passes v yours command bytes y) [
-        | inl n ↦ both_refuse v command bytes mine yours m n
+pub one_answer_of : OneVerdict → (command : Command) (loaded : Loaded) (mine yours : Status) → Answers mine command loaded → Answers yours command loaded → mine ≡ yours
+one_answer_of v command loaded mine yours x y =
+    elim (refuses_or_passes v mine command loaded x) [
+      | inl m ↦ elim (refuses_or_passes v yours command loaded y) [
+        | inl n ↦ both_refuse v command loaded mine yours m n
         | inr n ↦ absurd (m.excludes n.0)
       ]
-      | inr m ↦ elim (refuses_or_passes v yours command bytes y) [
+      | inr m ↦ elim (refuses_or_passes v yours command loaded y) [
         | inl n ↦ absurd (n.excludes m.0)
-        | inr n ↦ both_pass command bytes mine yours m.1 n.1
+        | inr n ↦ both_pass command loaded mine yours m.1 n.1
       ]
     ]
+
+-- ---- the inputs decide nothing but the run of an accepted image
+
+pub by_image : (status : Status) (command : Command) (a b : Loaded) → a.image ≡ b.image → (IsAccepted a.image → a ≡ b) → Answers status command a → Answers status command b
+by_image (Refused rule at) (Verify name) a b e f h = subst (λ (l : List ℕ). IsVerdict l rule at) e h
+by_image (Refused rule at) (Run name steps files) a b e f h = subst (λ (l : List ℕ). IsVerdict l rule at) e h
+by_image (Refused rule at) (Disasm name) a b e f h = subst (λ (l : List ℕ). IsUnlisted l rule at) e h
+by_image Done (Verify name) a b e f h = subst (λ (l : List ℕ). IsAccepted l) e h
+by_image Done (Disasm name) a b e f h = subst (λ (l : List ℕ). CanBeListed l) e h
+by_image Done (Run name steps files) a b e f h = subst (λ (l : Loaded). EndsRun Done steps files l) (f h.accepted) h
+by_image (Fault core at kind) (Run name steps files) a b e f h = subst (λ (l : Loaded). EndsRun (Fault core at kind) steps files l) (f h.accepted) h
+by_image (Steps used) (Run name steps files) a b e f h = subst (λ (l : Loaded). EndsRun (Steps used) steps files l) (f h.accepted) h
+by_image (TrustFault class) (Run name steps files) a b e f h = subst (λ (l : Loaded). EndsRun (TrustFault class) steps files l) (f h.accepted) h
+by_image (Fault core at kind) (Verify name) a b e f h = absurd h
+by_image (Fault core at kind) (Disasm name) a b e f h = absurd h
+by_image (Steps used) (Verify name) a b e f h = absurd h
+by_image (Steps used) (Disasm name) a b e f h = absurd h
+by_image (TrustFault class) (Verify name) a b e f h = absurd h
+by_image (TrustFault class) (Disasm name) a b e f h = absurd h
+by_image Usage command a b e f h = absurd (no_answer Usage command a refl h)
+by_image StoreFault command a b e f h = absurd (no_answer StoreFault command a refl h)
+by_image SinkFault command a b e f h = absurd (no_answer SinkFault command a refl h)
+by_image NoMemory command a b e f h = absurd (no_answer NoMemory command a refl h)

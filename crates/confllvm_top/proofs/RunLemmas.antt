@@ -1,60 +1,98 @@
--- The run of a machine that stands at an image's start.
-use Rattle.std.proofs.Common.{◌≡◌, ◌∙◌, ℕ, suc, List, [], ◌∷◌, length, refl, sym, ap, subst, Result, Ok, Err}
-use Rattle.std.specs.Prelude.{IfOk}
-use Rattle.std.specs.String.{string_bytes}
+-- The run of a machine that stands at an image's start, and what tells it.
+use Rattle.std.proofs.Common.{◌≡◌, ◌∙◌, ℕ, suc, List, [], ◌∷◌, ◌++◌, length, Option, Some, refl, sym, ap, subst, slice_get}
+use Rattle.std.proofs.lemmas.Option.{none-some}
+use Rattle.cv_word.specs.Words.{AreBytes}
+use Rattle.cv_word.specs.GateStep.{Tape}
 use Rattle.image_form.specs.Image.{Image}
-use Rattle.cv_word.specs.declared.no_memory.NoMemory.{NoMemory}
 use Rattle.conf_verify.specs.Verdict.{IsImage, IsAccepted}
 use Rattle.x64_machine.specs.declared.outcome.Outcome.{Outcome}
 use Rattle.x64_machine.specs.declared.outcome.Outcome.TheVariants as outcome
-use Rattle.x64_machine.specs.declared.schedule.Schedule.TheVariants.{RoundRobin}
-use Rattle.x64_machine.specs.Run.{Configuration, run}
-use Rattle.x64_machine.specs.Start.{Shared, Secret, start, start_cores}
-use Rattle.x64_machine.specs.Entries.{entries}
+use Rattle.x64_machine.specs.Run.{State, Configuration, configuration, run}
+use Rattle.x64_machine.specs.Start.{start_cores, start_state, none}
 use Rattle.x64_machine.specs.Noninterference.{Noninterfering}
+use Rattle.command_line.specs.Commands.{RunFiles, Run}
 use Rattle.confllvm_top.specs.declared.status.Status.{Status}
-use Rattle.confllvm_top.specs.declared.telling.Told.{Told}
-use Rattle.command_line.specs.Commands.{Run}
-use Rattle.confllvm_top.specs.Running.{RunsTo, status_of}
-use Rattle.confllvm_top.specs.Answers.{Answers, IsLine, IsAnswer}
+use Rattle.confllvm_top.specs.Answers.{Answers, EndsRun, IsAnswer, IsPlan, TellsRun}
+use Rattle.confllvm_top.specs.Inputs.{finding_in, Saves}
+use Rattle.confllvm_top.specs.Loading.{Loaded}
+use Rattle.confllvm_top.specs.Plans.{Plan, Saving}
+use Rattle.confllvm_top.specs.Running.{Finding, RunsTo, finding_of, outcome_line, plan_of, saving, schedule_of, status_of, used_of}
 
 -- there is a core for each entry
 length-start_cores : (image : Image) (i : ℕ) (xs : List ℕ) → length (start_cores image i xs) ≡ length xs
 length-start_cores image i [] = refl
 length-start_cores image i (entry ∷ xs) = ap suc (length-start_cores image (suc i) xs)
 
-abbrev outcome_after : ℕ → ℕ → Configuration → Outcome
-outcome_after steps n c = (run (entries (RoundRobin steps) n) c).outcome
+abbrev no_tape_list : List (Option Tape)
+no_tape_list = []
 
-pub runs_to : (bytes : List ℕ) (image : Image) (steps : ℕ) (outcome : Outcome) (private : List ℕ) (first last : Configuration) →
-    IsImage bytes image → private ≡ image.private →
-    ((shared : Shared) (secret : Secret) → secret.segment ≡ private → first ≡ start image shared secret) →
-    last ≡ run (entries (RoundRobin steps) (length first.cores)) first → outcome ≡ last.outcome →
-    RunsTo bytes steps outcome
-runs_to bytes image steps outcome private first last is same starts runs ends = record {
-  image = image;
-  is = is;
-  ends = λ shared secret h.
-      let begins = starts shared secret (h ∙ sym same) in
-      let cores : length first.cores ≡ length image.entries =
-      ap (λ (c : Configuration). length c.cores) begins ∙ length-start_cores image 0 image.entries in
-      ap (λ (c : Configuration). outcome_after steps (length image.entries) c) (sym begins)
-      ∙ ap (λ n. outcome_after steps n first) (sym cores)
-      ∙ ap (λ (c : Configuration). c.outcome) (sym runs)
-      ∙ sym ends;
-}
+no_tapes : (class : ℕ) (tape : Tape) → slice_get no_tape_list class ≡ Some (Some tape) → AreBytes tape.bytes
+no_tapes class tape e = absurd (none-some (Some tape) e)
 
-passes : (bytes : List ℕ) (name : List ℕ) (steps : ℕ) (o : Outcome) → IsAccepted bytes → RunsTo bytes steps o → Answers (status_of steps o) (Run name steps) bytes
-passes bytes name steps outcome.Running accepted runs = (accepted, runs, refl)
-passes bytes name steps (outcome.Fault core at kind) accepted runs = (accepted, runs)
+-- what a machine comes to that has run from the image's start
+pub runs_to : (loaded : Loaded) (steps : ℕ) (files : RunFiles) (image : Image) (private : List ℕ) (first last : State) (entries : List ℕ) →
+    IsImage loaded.image image → private ≡ image.private → AreBytes loaded.public_input × AreBytes loaded.private_input × AreBytes private →
+    first ≡ start_state image loaded.public_input loaded.private_input private →
+    configuration last none ≡ run entries (configuration first none) → entries ≡ schedule_of files steps loaded (length first.cores) →
+    RunsTo loaded steps files (finding_in last)
+runs_to loaded steps files image private first last entries is same bytes begins runs scheduled =
+    let cores : length first.cores ≡ length image.entries = ap (λ (s : State). length s.cores) begins ∙ length-start_cores image 0 image.entries in
+    let F : List ℕ → State → Finding = λ e s. finding_of (run e (configuration s none)) in
+    record {
+      image = image;
+      is = is;
+      shared = record { public_input = loaded.public_input; tapes = []; input_bytes = bytes.0; tape_bytes = no_tapes };
+      secret = record { segment = private; private_input = loaded.private_input; segment_bytes = bytes.2; input_bytes = bytes.1 };
+      public_input = refl;
+      tapes = refl;
+      segment = same;
+      private_input = refl;
+      comes_to =
+          ap (λ (c : Configuration). finding_of c) runs
+          ∙ ap (λ (e : List ℕ). F e first) (scheduled ∙ ap (λ (n : ℕ). schedule_of files steps loaded n) cores)
+          ∙ ap (λ (s : State). F (schedule_of files steps loaded (length image.entries)) s) begins;
+    }
 
--- what tells the outcome of the bytes' run is the answer
-pub run_told : (bytes : List ℕ) (steps : ℕ) (o : Outcome) (result : Result Told NoMemory) → IsAccepted bytes → Noninterfering bytes → RunsTo bytes steps o →
-    IfOk result (λ told. told.status ≡ status_of steps o) → IfOk result (λ told. (name any : List ℕ) → IsLine told.status (Run name steps) any (string_bytes told.line)) →
-    IfOk result (λ told. (name : List ℕ) → IsAnswer told.status (Run name steps) bytes (string_bytes told.line))
-run_told bytes steps o (Ok told) accepted noninterfering runs status line = λ name. record {
-  answers = subst (λ (s : Status). Answers s (Run name steps) bytes) (sym status) (passes bytes name steps o accepted runs);
-  noninterfering = λ _ _. noninterfering;
-  tells = line name bytes;
-}
-run_told bytes steps o (Err error) accepted noninterfering runs status line = tt
+-- ---- what tells it
+
+abbrev plan_by : List ℕ → List Saving → List ℕ → Plan
+plan_by out saves err = record { out = out; saves = saves; err = err }
+
+abbrev saves_by : Option (List ℕ) → List ℕ → Option (List ℕ) → List ℕ → Saves
+saves_by private_name private audit_name audit = record { private_name = private_name; private = private; audit_name = audit_name; audit = audit }
+
+ends_run : (name : List ℕ) (steps : ℕ) (files : RunFiles) (loaded : Loaded) (o : Outcome) → EndsRun (status_of (used_of files steps loaded) o) steps files loaded →
+    Answers (status_of (used_of files steps loaded) o) (Run name steps files) loaded
+ends_run name steps files loaded outcome.Running h = h
+ends_run name steps files loaded (outcome.Exited status) h = h
+ends_run name steps files loaded (outcome.Fault core at kind) h = h
+ends_run name steps files loaded (outcome.Tape core at class) h = h
+
+tells_run : (name : List ℕ) (steps : ℕ) (files : RunFiles) (loaded : Loaded) (plan : Plan) (o : Outcome) → TellsRun steps files loaded plan →
+    IsPlan (status_of (used_of files steps loaded) o) (Run name steps files) loaded plan
+tells_run name steps files loaded plan outcome.Running h = h
+tells_run name steps files loaded plan (outcome.Exited status) h = h
+tells_run name steps files loaded plan (outcome.Fault core at kind) h = h
+tells_run name steps files loaded plan (outcome.Tape core at class) h = h
+
+pub run_answer : (name : List ℕ) (steps : ℕ) (files : RunFiles) (loaded : Loaded) (status : Status) (plan : Plan) (finding : Finding) → IsAccepted loaded.image → Noninterfering loaded.image →
+    RunsTo loaded steps files finding → status ≡ status_of (used_of files steps loaded) finding.outcome → plan ≡ plan_of files (used_of files steps loaded) finding →
+    IsAnswer status (Run name steps files) loaded plan
+run_answer name steps files loaded status plan finding accepted noninterfering runs is told =
+    let used : ℕ = used_of files steps loaded in
+    subst (λ (s : Status). IsAnswer s (Run name steps files) loaded plan) (sym is) (record {
+      answers = ends_run name steps files loaded finding.outcome (record { accepted = accepted; finding = finding; runs = runs; status_is = refl });
+      noninterfering = λ _ _. noninterfering;
+      tells = tells_run name steps files loaded plan finding.outcome (record { finding = finding; runs = runs; is = told });
+    })
+
+same_plan : (a b : List ℕ) (xs ys : List Saving) (c d : List ℕ) → a ≡ b → xs ≡ ys → c ≡ d → plan_by a xs c ≡ plan_by b ys d
+same_plan a b xs ys c d e f g =
+    ap (λ (x : List ℕ). plan_by x xs c) e ∙ ap (λ (x : List Saving). plan_by b x c) f ∙ ap (λ (x : List ℕ). plan_by b ys x) g
+
+pub plan_is : (files : RunFiles) (used : ℕ) (finding : Finding) (out line : List ℕ) (s : Saves) → out ≡ finding.public_output →
+    s ≡ saves_by files.private_output finding.private_output files.audit finding.audit → line ≡ outcome_line used finding.outcome →
+    plan_by out (saving s.private_name s.private ++ saving s.audit_name s.audit) line ≡ plan_of files used finding
+plan_is files used finding out line s a b c =
+    same_plan out finding.public_output _ _ line (outcome_line used finding.outcome) a
+    (ap (λ (x : Saves). saving x.private_name x.private ++ saving x.audit_name x.audit) b) c

@@ -1,92 +1,117 @@
--- What a command has loaded, and what it has put at its end.
-use Rattle.std.specs.Prelude.{◌≡◌, ◌⊎◌, ℕ, true, List, Option, Some}
-use Rattle.cv_io.specs.Files.{Files, HasFile, LacksFile}
+-- How a command ends.
+use Rattle.std.specs.Prelude.{◌≡◌, ◌⊎◌, ℕ, List, Option, Some, []}
+use Rattle.cv_io.specs.Files.{Files}
+use Rattle.command_line.specs.Commands.{Command, IsCommand}
 use Rattle.conf_verify.specs.Verdict.{IsAccepted}
 use Rattle.x64_machine.specs.Noninterference.{Noninterfering}
 use Rattle.confllvm_top.specs.declared.status.Status.{Status}
 use Rattle.confllvm_top.specs.declared.status.Status.TheVariants.{StoreFault, SinkFault, NoMemory}
-use Rattle.command_line.specs.Commands.{Command, Verify, Run, Disasm, IsCommand, name_of}
-use Rattle.confllvm_top.specs.Lines.{no_memory_line}
-use Rattle.confllvm_top.specs.Statuses.{is_passed}
-use Rattle.confllvm_top.specs.Streams.{Stream, HasGot, HasGotNothing, HasFailed, HasGotFront, MayHaveGot}
 use Rattle.confllvm_top.specs.Answers.{IsAnswer}
+use Rattle.confllvm_top.specs.Lines.{no_memory_line, store_fault_line}
+use Rattle.confllvm_top.specs.Loading.{Loaded, AreLoaded, HasInputs, LacksInput, Loads, named_by}
+use Rattle.confllvm_top.specs.Plans.{Plan, Shelf, HasSaved, HasFaulted, IsTold, IsCutOff, IsUnsaved, RanOut, PlanEnds}
+use Rattle.confllvm_top.specs.Streams.{Stream, HasGotNothing, HasFailed, MayHaveGot}
 
--- The words say the command, and these are the bytes of its file. Where the store doesn't tell its files, they may be any bytes.
-pub record AreLoaded (words : List (List ℕ)) (files : Option Files) (command : Command) (bytes : List ℕ) : Type 0 where
-  pub said : IsCommand words command
-  pub has : HasFile files (name_of command) bytes
+-- what a call sees of the outside: both sinks and the store
+pub record Outside : Type 0 where
+  pub out : Stream
+  pub err : Stream
+  pub store : Shelf
 
--- the words say the command, the files are told, and these are the bytes of its file
-pub record TellsNamed (words : List (List ℕ)) (told : Option Files) (command : Command) (bytes : List ℕ) : Type 0 where
-  pub said : IsCommand words command
-  pub files : Files
-  pub are_told : told ≡ Some files
-  pub has : files (name_of command) ≡ Some bytes
-
--- the words say a command, the files are told, and none is its file
-pub record LacksNamed (words : List (List ℕ)) (files : Option Files) : Type 0 where
+-- the command that the words say, with what it has loaded, was about to end with a status, which this plan tells
+pub record IsAbout (words : List (List ℕ)) (told : Option Files) (status : Status) (plan : Plan) : Type 0 where
   pub command : Command
-  pub said : IsCommand words command
-  pub lacks : LacksFile files (name_of command)
+  pub loaded : Loaded
+  pub are_loaded : AreLoaded words told command loaded
+  pub answer : IsAnswer status command loaded plan
 
--- `run` puts its line to `err`, and the other commands put theirs to `out`; nothing else is put. (A run has no output so far.)
-abbrev pub Puts : Command → List ℕ → Stream → Stream → Type 0
-Puts (Verify name) line out err = HasGot line out × HasGotNothing err
-Puts (Disasm name) line out err = HasGot line out × HasGotNothing err
-Puts (Run name steps) line out err = HasGotNothing out × HasGot line err
+-- it ended with that status, and all is told
+pub record HasEnded (status : Status) (words : List (List ℕ)) (o : Outside) : Type 0 where
+  pub plan : Plan
+  pub about : IsAbout words o.store.files_before status plan
+  pub told : IsTold plan o.out o.err o.store
 
--- A put at a command's end has failed, after which nothing was put: that of the line, of which there is a front; or, where a run
--- has ended, that of its output before the line.
-abbrev pub PutsFront : Command → Status → List ℕ → Stream → Stream → Type 0
-PutsFront (Verify name) status line out err = HasGotFront line out × HasGotNothing err
-PutsFront (Disasm name) status line out err = HasGotFront line out × HasGotNothing err
-PutsFront (Run name steps) status line out err =
-    (HasGotNothing out × HasGotFront line err)
-    ⊎ ((is_passed status ≡ true) × HasGotNothing out × HasFailed out × HasGotNothing err)
-
--- a command on these bytes has ended with this status, and has told it
-pub record HasTold (status : Status) (command : Command) (bytes : List ℕ) (out err : Stream) : Type 0 where
-  pub line : List ℕ
-  pub answer : IsAnswer status command bytes line
-  pub puts : Puts command line out err
-
--- a command on these bytes was about to end with some status, and a put failed
-pub record WasCutOff (command : Command) (bytes : List ℕ) (out err : Stream) : Type 0 where
+-- it was about to end, and a put failed
+pub record HasFailedToEnd (words : List (List ℕ)) (o : Outside) : Type 0 where
   pub status : Status
-  pub line : List ℕ
-  pub answer : IsAnswer status command bytes line
-  pub puts : PutsFront command status line out err
+  pub plan : Plan
+  pub about : IsAbout words o.store.files_before status plan
+  pub cut_off : IsCutOff plan o.out o.err o.store
 
--- What doing a command with these bytes comes to: it has told its answer; or a put has failed; or memory was refused, which
--- is told.
-abbrev pub Ends : Status → Command → List ℕ → Stream → Stream → Type 0
-Ends status command bytes out err =
-    HasTold status command bytes out err
-    ⊎ ((status ≡ SinkFault) × WasCutOff command bytes out err)
-    ⊎ ((status ≡ NoMemory) × HasGotNothing out × MayHaveGot no_memory_line err)
+-- it was about to end, and a save failed
+pub record HasFailedToSave (words : List (List ℕ)) (o : Outside) : Type 0 where
+  pub status : Status
+  pub plan : Plan
+  pub about : IsAbout words o.store.files_before status plan
+  pub unsaved : IsUnsaved plan o.out o.err o.store
 
--- the command that the words say, with the bytes of its file, has ended with this status, and has told it
-pub record HasEnded (status : Status) (words : List (List ℕ)) (files : Option Files) (out err : Stream) : Type 0 where
+-- it was about to end, and memory was refused
+pub record HasRunOut (words : List (List ℕ)) (o : Outside) : Type 0 where
+  pub status : Status
+  pub plan : Plan
+  pub about : IsAbout words o.store.files_before status plan
+  pub ran_out : RanOut plan o.out o.err o.store
+
+-- nothing was put to `out` or saved
+pub record IsQuiet (o : Outside) : Type 0 where
+  pub out : HasGotNothing o.out
+  pub store : HasSaved [] o.store
+
+-- a load of a command failed, and so nothing was put or saved but the line of that
+pub record HasFailedToLoad (command : Command) (o : Outside) : Type 0 where
+  pub quiet : IsQuiet o
+  pub name : List ℕ
+  pub loads : Loads command name
+  pub tells : MayHaveGot (store_fault_line name) o.err
+
+-- a load of the command that the words say failed
+pub record HasNotLoaded (words : List (List ℕ)) (o : Outside) : Type 0 where
   pub command : Command
-  pub bytes : List ℕ
-  pub loaded : AreLoaded words files command bytes
-  pub told : HasTold status command bytes out err
+  pub said : IsCommand words command
+  pub failed : HasFailedToLoad command o
 
--- the command that the words say, with the bytes of its file, was about to end, and a put failed
-pub record HasFailedToEnd (words : List (List ℕ)) (files : Option Files) (out err : Stream) : Type 0 where
-  pub command : Command
-  pub bytes : List ℕ
-  pub loaded : AreLoaded words files command bytes
-  pub cut_off : WasCutOff command bytes out err
+-- memory was refused before the command was about to end
+pub record HasNoMemory (o : Outside) : Type 0 where
+  pub quiet : IsQuiet o
+  pub tells : MayHaveGot no_memory_line o.err
+
+-- ---- with the bytes of the command's file
+
+-- the files are told, and this is so of them
+abbrev pub ToldAnd : Option Files → (Files → Type 0) → Type 0
+ToldAnd told P = (files : Files) × (told ≡ Some files) × P files
+
+-- the image is accepted, and an input was not loaded: the store failed, or has no such file
+pub record MissesInput (command : Command) (image : List ℕ) (o : Outside) : Type 0 where
+  pub accepted : IsAccepted image
+  pub failed : HasFailedToLoad command o
+  pub cause : HasFaulted o.store ⊎ ToldAnd o.store.files_before (λ files. LacksInput files (named_by command))
+
+-- the command was about to end with a status, and its plan was carried out
+pub record CarriesOut (result : Status) (command : Command) (image : List ℕ) (o : Outside) : Type 0 where
+  pub loaded : Loaded
+  pub image_is : loaded.image ≡ image
+  pub inputs : IsAccepted loaded.image → HasInputs o.store.files_before (named_by command) loaded
+  pub status : Status
+  pub plan : Plan
+  pub answer : IsAnswer status command loaded plan
+  pub ends : PlanEnds result status plan o.out o.err o.store
+
+-- what doing a command with the bytes of its file comes to
+abbrev pub Does : Status → Command → List ℕ → Outside → Type 0
+Does result command image o =
+    ((result ≡ NoMemory) × HasNoMemory o)
+    ⊎ ((result ≡ StoreFault) × MissesInput command image o)
+    ⊎ CarriesOut result command image o
 
 -- the bytes that the command has loaded are accepted and noninterfering
-pub record IsChecked (words : List (List ℕ)) (files : Option Files) (command : Command) : Type 0 where
-  pub bytes : List ℕ
-  pub loaded : AreLoaded words files command bytes
-  pub accepted : IsAccepted bytes
-  pub noninterfering : Noninterfering bytes
+pub record IsChecked (words : List (List ℕ)) (told : Option Files) (command : Command) : Type 0 where
+  pub loaded : Loaded
+  pub are_loaded : AreLoaded words told command loaded
+  pub accepted : IsAccepted loaded.image
+  pub noninterfering : Noninterfering loaded.image
 
--- a fault of the store or of a sink, or want of memory, came before the answer
-abbrev pub IsFault : Status → Type 0 → Stream → Stream → Type 0
-IsFault status StoreRisen out err =
-    ((status ≡ StoreFault) × StoreRisen) ⊎ ((status ≡ SinkFault) × (HasFailed out ⊎ HasFailed err)) ⊎ (status ≡ NoMemory)
+-- a fault of the store or of a sink, or want of memory, came in place of the answer
+abbrev pub IsFault : Status → Outside → Type 0
+IsFault status o =
+    ((status ≡ StoreFault) × HasFaulted o.store) ⊎ ((status ≡ SinkFault) × (HasFailed o.out ⊎ HasFailed o.err)) ⊎ (status ≡ NoMemory)

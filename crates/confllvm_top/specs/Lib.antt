@@ -14,9 +14,13 @@ pub use Rattle.cv_io.specs.Output
 pub mod Lines
 pub mod Statuses
 pub mod Streams
-pub mod Putting
+pub mod Loading
+pub mod Plans
 pub mod Verifying
 pub mod Listing
 pub mod Running
+pub mod Loads
+pub mod Inputs
 pub mod Answers
 pub mod Endings
+pub mod Outsides

@@ -1,10 +1,10 @@
 -- The lines that a command prints. Each ends with a newline.
-use Rattle.std.specs.Prelude.{◌==◌, ℕ, false, List, [], ◌∷◌, ◌++◌, codes, if◌then◌else◌}
-use Rattle.std.specs.Fmt.{decimal, digits}
+use Rattle.std.specs.Prelude.{◌==◌, ℕ, ℤ, false, List, [], ◌∷◌, ◌++◌, codes, if◌then◌else◌}
+use Rattle.std.specs.Fmt.{decimal, digits, signed_decimal}
 use Rattle.conf_verify.specs.declared.rule.Rule.{Rule}
 use Rattle.conf_verify.specs.Rules.{rule_number}
 use Rattle.cv_word.specs.declared.fault.FaultKind.{FaultKind}
-use Rattle.cv_word.specs.declared.fault.FaultKind.TheVariants.{Memory, Undefined, Divide}
+use Rattle.cv_word.specs.declared.fault.FaultKind.TheVariants.{Memory, Undefined, Divide, GateReturn, Range, OutLimit, NoReleaser}
 
 abbrev pub newline : List ℕ
 newline = 10 ∷ []
@@ -28,6 +28,10 @@ abbrev pub kind_word : FaultKind → List ℕ
 kind_word Memory = codes "Memory"
 kind_word Undefined = codes "Undefined"
 kind_word Divide = codes "Divide"
+kind_word GateReturn = codes "GateReturn"
+kind_word Range = codes "Range"
+kind_word OutLimit = codes "OutLimit"
+kind_word NoReleaser = codes "NoReleaser"
 
 abbrev pub fault_line : ℕ → ℕ → FaultKind → List ℕ
 fault_line core at kind =
@@ -35,6 +39,13 @@ fault_line core at kind =
 
 abbrev pub steps_line : ℕ → List ℕ
 steps_line used = codes "steps " ++ (decimal used ++ newline)
+
+-- the status of a run that exited, in decimal with a sign where it is negative
+abbrev pub exit_line : ℤ → List ℕ
+exit_line status = codes "exit " ++ (signed_decimal status ++ newline)
+
+abbrev pub trust_fault_line : ℕ → List ℕ
+trust_fault_line class = codes "trust fault class " ++ (decimal class ++ newline)
 
 abbrev pub usage_line : List ℕ
 usage_line = codes "usage fault" ++ newline

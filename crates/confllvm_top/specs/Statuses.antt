@@ -2,7 +2,7 @@
 use Rattle.std.specs.Prelude.{ℕ, Bool, true, false}
 use Rattle.command_line.specs.Commands.{Command, Disasm}
 use Rattle.confllvm_top.specs.declared.status.Status.{Status}
-use Rattle.confllvm_top.specs.declared.status.Status.TheVariants.{Done, Refused, Usage, StoreFault, SinkFault, Fault, Steps, NoMemory}
+use Rattle.confllvm_top.specs.declared.status.Status.TheVariants.{Done, Refused, Usage, StoreFault, SinkFault, Fault, Steps, TrustFault, NoMemory}
 
 abbrev pub code_of : Status → ℕ
 code_of Done = 0
@@ -12,6 +12,7 @@ code_of StoreFault = 3
 code_of SinkFault = 4
 code_of (Fault core at kind) = 5
 code_of (Steps used) = 6
+code_of (TrustFault class) = 8
 code_of NoMemory = 9
 
 -- whether a command checks the bytes of its file before all else; `disasm` only lists them
@@ -24,6 +25,7 @@ abbrev pub is_passed : Status → Bool
 is_passed Done = true
 is_passed (Fault core at kind) = true
 is_passed (Steps used) = true
+is_passed (TrustFault class) = true
 is_passed _ = false
 
 -- the command has told how it ended: it passed the bytes or refused them

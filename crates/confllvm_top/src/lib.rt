@@ -10,6 +10,7 @@ mod command;
 mod law;
 mod lines;
 mod listing;
+mod loading;
 mod running;
 mod status;
 mod telling;

@@ -3,7 +3,7 @@
 ghost use Rattle.std.specs.Prelude.{◌≡◌, IfOk};
 ghost use Rattle.std.specs.String.{string_bytes};
 ghost use Rattle.conf_verify.specs.Rules.{rule_number};
-ghost use Rattle.confllvm_top.specs.Lines.{accepted_line, refused_line, fault_line, kind_word, steps_line, store_fault_line};
+ghost use Rattle.confllvm_top.specs.Lines.{accepted_line, refused_line, fault_line, exit_line, kind_word, steps_line, store_fault_line, trust_fault_line};
 
 use conf_verify::{Counts, Rule};
 use std::alloc::{AllocError, Global};
@@ -45,6 +45,20 @@ pub(crate) fn steps(alloc: Global, used: u64) -> Result<String, AllocError>
     format!(in alloc; "steps {used}\n")
 }
 
+/// `exit S`
+pub(crate) fn exit(alloc: Global, status: i32) -> Result<String, AllocError>
+    ensures { IfOk result (λ line. string_bytes line ≡ exit_line status) }
+{
+    format!(in alloc; "exit {status}\n")
+}
+
+/// `trust fault class K`
+pub(crate) fn trust_fault(alloc: Global, class: u64) -> Result<String, AllocError>
+    ensures { IfOk result (λ line. string_bytes line ≡ trust_fault_line class) }
+{
+    format!(in alloc; "trust fault class {class}\n")
+}
+
 /// `store fault NAME`
 pub(crate) fn store_fault(alloc: Global, name: &str) -> Result<String, AllocError>
     ensures { IfOk result (λ line. string_bytes line ≡ store_fault_line name.now) }
@@ -60,6 +74,10 @@ fn word_of(kind: FaultKind) -> &'static str
         FaultKind::Memory => "Memory",
         FaultKind::Undefined => "Undefined",
         FaultKind::Divide => "Divide",
+        FaultKind::GateReturn => "GateReturn",
+        FaultKind::Range => "Range",
+        FaultKind::OutLimit => "OutLimit",
+        FaultKind::NoReleaser => "NoReleaser",
     }
 }
 

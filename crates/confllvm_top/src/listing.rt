@@ -1,10 +1,12 @@
 //! What `disasm` does with the bytes of a file.
 
-ghost use Rattle.std.specs.Prelude.{◌≤◌, ℕ, List, IfOk};
+ghost use Rattle.std.specs.Prelude.{◌≤◌, ℕ, List, [], IfOk};
 ghost use Rattle.std.specs.String.{string_bytes};
 ghost use Rattle.command_line.specs.Commands.{Disasm};
 ghost use Rattle.confllvm_top.specs.Answers.{IsAnswer};
-ghost use Rattle.confllvm_top.specs.Endings.{Ends};
+ghost use Rattle.confllvm_top.specs.Endings.{Does};
+ghost use Rattle.confllvm_top.specs.Inputs.{image_alone};
+ghost use Rattle.confllvm_top.specs.Plans.{HasSaved, Shelf, line_out};
 ghost use Rattle.confllvm_top.specs.Streams.{stream};
 
 use crate::lines;
@@ -23,7 +25,7 @@ pub(crate) fn tell_listing<O: Sink, E: Sink>(
     out: &mut O,
     err: &mut E,
 ) -> Status
-    ensures ends { (name : List ℕ) → Ends result (Disasm name) bytes.now (stream O.held O.faults out.old out.new) (stream E.held E.faults err.old err.new) }
+    ensures does { (name : List ℕ) (s : Shelf) → HasSaved [] s → Does result (Disasm name) bytes.now (record { out = stream O.held O.faults out.old out.new; err = stream E.held E.faults err.old err.new; store = s }) }
     ensures out_counted { O.faults out.old ≤ O.faults out.new }
     ensures err_counted { E.faults err.old ≤ E.faults err.new }
 {
@@ -35,7 +37,7 @@ pub(crate) fn tell_listing<O: Sink, E: Sink>(
 
 /// The text of the bytes' listing, or the line of the refusal.
 fn listing_of(alloc: Global, bytes: &[u8]) -> Result<Told, NoMemory>
-    ensures { IfOk result (λ told. (name : List ℕ) → IsAnswer told.status (Disasm name) bytes.now (string_bytes told.line)) }
+    ensures { IfOk result (λ told. (name : List ℕ) → IsAnswer told.status (Disasm name) (image_alone bytes.now) (line_out (string_bytes told.line))) }
 {
     match list_items(alloc, bytes) {
         Ok(listing) => {

@@ -1,7 +1,7 @@
 //! How a command ended.
 
 ghost use Rattle.std.specs.Prelude.{◌≡◌};
-ghost use Rattle.confllvm_top.specs.Statuses.{code_of, is_passed};
+ghost use Rattle.confllvm_top.specs.Statuses.{code_of};
 
 use conf_verify::Rule;
 use x64_machine::FaultKind;
@@ -23,13 +23,15 @@ pub enum Status {
     Fault { core: u8, at: u64, kind: FaultKind },
     /// The run goes on after all entries of its schedule, `used` of them.
     Steps { used: u64 },
+    /// The tape of a class of releases ran out: its releaser has failed.
+    TrustFault { class: u64 },
     /// Memory was refused.
     NoMemory,
 }
 
 impl Status {
     /// The exit status: 0 for `Done`, 1 for `Refused`, 2 for `Usage`, 3 for `StoreFault`, 4 for
-    /// `SinkFault`, 5 for `Fault`, 6 for `Steps` and 9 for `NoMemory`.
+    /// `SinkFault`, 5 for `Fault`, 6 for `Steps`, 8 for `TrustFault` and 9 for `NoMemory`.
     pub fn code(&self) -> u8
         ensures { result ≡ code_of self.now }
     {
@@ -41,18 +43,8 @@ impl Status {
             Status::SinkFault => 4,
             Status::Fault { .. } => 5,
             Status::Steps { .. } => 6,
+            Status::TrustFault { .. } => 8,
             Status::NoMemory => 9,
-        }
-    }
-    /// Whether the command did its work with the bytes of its file, and didn't refuse them.
-    pub(crate) fn is_passed(&self) -> bool
-        ensures { result ≡ is_passed self.now }
-    {
-        match self {
-            Status::Done => true,
-            Status::Fault { .. } => true,
-            Status::Steps { .. } => true,
-            _ => false,
         }
     }
 }

@@ -1,10 +1,12 @@
 //! The lines and statuses of the commands by hand, over stores and sinks in memory that succeed or fail.
 
+mod gates;
 mod rows;
 
+use self::gates::{FILLS_OUTPUT, FILLS_PRIVATE_OUTPUT, GATES, TWO_CORES};
 use self::rows::{CODES, LISTINGS, PREFIX, RUNS};
 use super::*;
-use cv_io::{MemSink, MemStore};
+use cv_io::{MemSink, MemStore, Store};
 use cv_word::NoMemory;
 use std::alloc::Global;
 use std::process::Abort;
@@ -217,5 +219,231 @@ fn tells_a_failing_sink_of_a_run(rt: HostRuntime) -> Result<(), Fail> {
     assert_eq!(rt; err.bytes(), b"faurefu".as_slice());
     assert_eq!(rt; out.bytes(), b"".as_slice());
     assert_eq!(rt; out.faults(), 1);
+    Ok(())
+}
+
+/// The words of a run over the files `img`, `p` and `q` that saves `r` and `a`.
+const NAMED: [&str; 11] = [
+    "run",
+    "img",
+    "100000",
+    "--public",
+    "p",
+    "--private",
+    "q",
+    "--private-out",
+    "r",
+    "--audit",
+    "a",
+];
+
+/// Each gate, and each fault of one.
+#[test]
+fn tells_what_gates_do(rt: HostRuntime) -> Result<(), Fail> {
+    let alloc = rt.alloc();
+    let line = words(alloc, &NAMED)?;
+    for (code, public, private, status, told, saved, text) in &GATES {
+        let mut store = MemStore::new(alloc);
+        store.add("img", image(alloc, PREFIX, code)?.as_slice())?;
+        store.add("p", public)?;
+        store.add("q", private)?;
+        let (mut out, mut err) = (MemSink::new(alloc), MemSink::new(alloc));
+        let ended = confllvm(alloc, &line, &mut store, &mut out, &mut err);
+        assert_eq!(rt; ended.code(), *status);
+        assert_eq!(rt; out.bytes(), *told);
+        assert_eq!(rt; err.bytes(), *text);
+        assert_eq!(rt; store.load(alloc, "r")?.as_slice(), *saved);
+        assert_eq!(rt; store.load(alloc, "a")?.as_slice(), b"".as_slice());
+    }
+    Ok(())
+}
+
+/// An output is filled to its limit of 1,048,576 bytes exactly, or up to the last piece that fits.
+#[test]
+fn tells_an_output_at_its_limit(rt: HostRuntime) -> Result<(), Fail> {
+    let alloc = rt.alloc();
+    let line = words(alloc, &NAMED)?;
+    let cases: [(&[u8], usize, usize, &[u8]); 2] = [
+        (
+            &FILLS_OUTPUT,
+            1_048_576,
+            0,
+            b"fault core 0 at 0x1030 OutLimit\n",
+        ),
+        (
+            &FILLS_PRIVATE_OUTPUT,
+            0,
+            1_044_480,
+            b"fault core 0 at 0x1050 OutLimit\n",
+        ),
+    ];
+    for (code, told, saved, text) in cases {
+        let mut store = MemStore::new(alloc);
+        store.add("img", image(alloc, PREFIX, code)?.as_slice())?;
+        store.add("p", b"")?;
+        store.add("q", b"")?;
+        let (mut out, mut err) = (MemSink::new(alloc), MemSink::new(alloc));
+        let ended = confllvm(alloc, &line, &mut store, &mut out, &mut err);
+        assert_eq!(rt; ended.code(), 5);
+        assert_eq!(rt; out.bytes().len(), told);
+        assert_eq!(rt; err.bytes(), text);
+        assert_eq!(rt; store.load(alloc, "r")?.len(), saved);
+    }
+    Ok(())
+}
+
+/// An image of several entries, each at a place of the code of at most 255 bytes.
+fn cores(alloc: Global, entries: &[u8], code: &[u8]) -> Result<Vec<u8>, NoMemory> {
+    let mut bytes = Vec::new(alloc);
+    bytes.extend_from_slice(&SMALL[..5])?;
+    bytes.push((entries.len() % 256) as u8)?;
+    bytes.extend_from_slice(&SMALL[6..24])?;
+    bytes.push((code.len() % 256) as u8)?;
+    bytes.extend_from_slice(&SMALL[25..40])?;
+    for entry in entries {
+        bytes.push(*entry)?;
+        bytes.extend_from_slice(&[0, 0, 0])?;
+    }
+    bytes.extend_from_slice(code)?;
+    Ok(bytes)
+}
+
+/// The same image over two schedules, and over ones that name cores that aren't there.
+#[test]
+fn tells_what_two_cores_do(rt: HostRuntime) -> Result<(), Fail> {
+    let alloc = rt.alloc();
+    let bytes = cores(alloc, &[8, 71], &TWO_CORES)?;
+    let line = words(alloc, &["run", "img", "11", "--schedule", "s"])?;
+    let cases: [(&[u8], u8, &[u8], &[u8]); 6] = [
+        (b"\0\0\0\x01\x01\x01\0\0\0\0\0", 0, b"\x02", b"exit 0\n"),
+        (b"\x01\x01\x01\0\0\0\0\0\0\0\0", 0, b"\x01", b"exit 0\n"),
+        (b"\xff\x02\0\0\0\0\0\0\0\0\0", 0, b"\x01", b"exit 0\n"),
+        (
+            b"\x01\x01\x01\x01\x01\x01\x01\x01\x01\x01\x01\0\0",
+            6,
+            b"",
+            b"steps 11\n",
+        ),
+        (b"\0\0\0\0\0", 6, b"\x01", b"steps 5\n"),
+        (b"", 6, b"", b"steps 0\n"),
+    ];
+    for (schedule, status, told, text) in cases {
+        let mut store = MemStore::new(alloc);
+        store.add("img", bytes.as_slice())?;
+        store.add("s", schedule)?;
+        let (mut out, mut err) = (MemSink::new(alloc), MemSink::new(alloc));
+        let ended = confllvm(alloc, &line, &mut store, &mut out, &mut err);
+        assert_eq!(rt; ended.code(), status);
+        assert_eq!(rt; out.bytes(), told);
+        assert_eq!(rt; err.bytes(), text);
+    }
+    Ok(())
+}
+
+/// One call fails of a run that loads four files, puts, saves two and puts its line: what is told and saved then.
+#[test]
+fn tells_what_was_saved_before_a_fault(rt: HostRuntime) -> Result<(), Fail> {
+    let alloc = rt.alloc();
+    let bytes = cores(alloc, &[8, 71], &TWO_CORES)?;
+    let line = words(
+        alloc,
+        &[
+            "run",
+            "img",
+            "11",
+            "--schedule",
+            "s",
+            "--public",
+            "p",
+            "--private",
+            "q",
+            "--private-out",
+            "r",
+            "--audit",
+            "a",
+        ],
+    )?;
+    // the store's call, the put to `out` and the put to `err` that fail, or 0; then the status, both sinks, and what is saved
+    let cases: [(u64, u64, u64, u8, &[u8], &[u8], bool, bool); 9] = [
+        (0, 0, 0, 0, b"\x02", b"exit 0\n", true, true),
+        (1, 0, 0, 3, b"", b"store fault img\n", false, false),
+        (2, 0, 0, 3, b"", b"store fault s\n", false, false),
+        (3, 0, 0, 3, b"", b"store fault p\n", false, false),
+        (4, 0, 0, 3, b"", b"store fault q\n", false, false),
+        (0, 1, 0, 4, b"", b"", false, false),
+        (5, 0, 0, 3, b"\x02", b"store fault r\n", false, false),
+        (6, 0, 0, 3, b"\x02", b"store fault a\n", true, false),
+        (0, 0, 1, 4, b"\x02", b"exit", true, true),
+    ];
+    for (call, put, line_put, status, told, text, private, audit) in cases {
+        let mut store = MemStore::new(alloc);
+        store.add("img", bytes.as_slice())?;
+        store.add("s", b"\0\0\0\x01\x01\x01\0\0\0\0\0")?;
+        store.add("p", b"")?;
+        store.add("q", b"")?;
+        store.fail_at(call)?;
+        let (mut out, mut err) = (MemSink::new(alloc), MemSink::new(alloc));
+        out.fail_at(put, 0)?;
+        err.fail_at(line_put, 4)?;
+        let ended = confllvm(alloc, &line, &mut store, &mut out, &mut err);
+        assert_eq!(rt; ended.code(), status);
+        assert_eq!(rt; out.bytes(), told);
+        assert_eq!(rt; err.bytes(), text);
+        assert_eq!(rt; store.load(alloc, "r").is_ok(), private);
+        assert_eq!(rt; store.load(alloc, "a").is_ok(), audit);
+    }
+    Ok(())
+}
+
+/// The inputs are loaded behind the check, in this order; the first that isn't there is told.
+#[test]
+fn tells_a_missing_input(rt: HostRuntime) -> Result<(), Fail> {
+    let alloc = rt.alloc();
+    let line = words(
+        alloc,
+        &[
+            "run",
+            "img",
+            "2",
+            "--private",
+            "q",
+            "--public",
+            "p",
+            "--schedule",
+            "s",
+        ],
+    )?;
+    let mut store = MemStore::new(alloc);
+    let (mut out, mut err) = (MemSink::new(alloc), MemSink::new(alloc));
+    store.add("img", &SMALL[..53])?;
+    assert_eq!(rt;
+        confllvm(alloc, &line, &mut store, &mut out, &mut err).code(),
+        1
+    );
+    store.add("img", &SMALL)?;
+    assert_eq!(rt;
+        confllvm(alloc, &line, &mut store, &mut out, &mut err).code(),
+        3
+    );
+    store.add("s", b"\xff\xff\0")?;
+    assert_eq!(rt;
+        confllvm(alloc, &line, &mut store, &mut out, &mut err).code(),
+        3
+    );
+    store.add("p", b"")?;
+    assert_eq!(rt;
+        confllvm(alloc, &line, &mut store, &mut out, &mut err).code(),
+        3
+    );
+    store.add("q", b"")?;
+    assert_eq!(rt;
+        confllvm(alloc, &line, &mut store, &mut out, &mut err).code(),
+        6
+    );
+    assert_eq!(rt;
+        err.bytes(),
+        b"refused V1 at place 24\nstore fault s\nstore fault p\nstore fault q\nsteps 2\n".as_slice()
+    );
+    assert_eq!(rt; store.faults(), 0);
     Ok(())
 }

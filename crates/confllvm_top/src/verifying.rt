@@ -1,10 +1,12 @@
 //! What `verify` does with the bytes of a file.
 
-ghost use Rattle.std.specs.Prelude.{◌≤◌, ℕ, List, IfOk};
+ghost use Rattle.std.specs.Prelude.{◌≤◌, ℕ, List, [], IfOk};
 ghost use Rattle.std.specs.String.{string_bytes};
 ghost use Rattle.confllvm_top.specs.Answers.{IsAnswer};
 ghost use Rattle.command_line.specs.Commands.{Verify};
-ghost use Rattle.confllvm_top.specs.Endings.{Ends};
+ghost use Rattle.confllvm_top.specs.Endings.{Does};
+ghost use Rattle.confllvm_top.specs.Inputs.{image_alone};
+ghost use Rattle.confllvm_top.specs.Plans.{HasSaved, Shelf, line_out};
 ghost use Rattle.confllvm_top.specs.Streams.{stream};
 
 use crate::lines;
@@ -22,7 +24,7 @@ pub(crate) fn tell_verdict<O: Sink, E: Sink>(
     out: &mut O,
     err: &mut E,
 ) -> Status
-    ensures ends { (name : List ℕ) → Ends result (Verify name) bytes.now (stream O.held O.faults out.old out.new) (stream E.held E.faults err.old err.new) }
+    ensures does { (name : List ℕ) (s : Shelf) → HasSaved [] s → Does result (Verify name) bytes.now (record { out = stream O.held O.faults out.old out.new; err = stream E.held E.faults err.old err.new; store = s }) }
     ensures out_counted { O.faults out.old ≤ O.faults out.new }
     ensures err_counted { E.faults err.old ≤ E.faults err.new }
 {
@@ -34,7 +36,7 @@ pub(crate) fn tell_verdict<O: Sink, E: Sink>(
 
 /// Verifies the bytes, and writes the line that tells what they are.
 fn verdict_of(alloc: Global, bytes: &[u8]) -> Result<Told, NoMemory>
-    ensures { IfOk result (λ told. (name : List ℕ) → IsAnswer told.status (Verify name) bytes.now (string_bytes told.line)) }
+    ensures { IfOk result (λ told. (name : List ℕ) → IsAnswer told.status (Verify name) (image_alone bytes.now) (line_out (string_bytes told.line))) }
 {
     match verify(alloc, bytes) {
         Ok(verified) => {

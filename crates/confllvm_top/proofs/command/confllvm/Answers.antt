@@ -1,69 +1,109 @@
-use Rattle.std.proofs.Common.{rules, inr, map}
-use Rattle.std.specs.String.{string_bytes}
+use Rattle.std.proofs.Common.{rules, refl, inl, inr}
+use Rattle.cv_io.specs.Files.{HasFile}
+use Rattle.command_line.specs.Commands.{name_of}
 use Rattle.command_line.specs.Words.{command_of}
-use Rattle.confllvm_top.specs.Streams.{Stream, stream}
-use Rattle.confllvm_top.specs.Endings.{AreLoaded}
-use Rattle.confllvm_top.proofs.EndingLemmas.{are_loaded, lacks_named, ended-checked, ended-told, ended-cut_off, ended-answered, ended-exact, ends-sink_fault, ends-no_memory, store_fault_under}
+use Rattle.confllvm_top.specs.Endings.{Does, Outside}
+use Rattle.confllvm_top.specs.Outsides.{outside}
+use Rattle.confllvm_top.proofs.EndingLemmas.{cut_off-failed, ended-answered, ended-checked, ended-cut_off, ended-exact, ended-ran_out, ended-store_fault, ended-told, ended-unsaved, has_named, lacks_named}
+use Rattle.confllvm_top.proofs.OneAnswer.{by_image}
+use Rattle.confllvm_top.proofs.PlanLemmas.{does_since}
 use Rattle.confllvm_top.proofs.command.confllvm.Given.{Over}
 use Rattle.confllvm_top.proofs.command.confllvm.Goals as goal
 
--- what the command was done with
-loaded : (g : Over) (c : goal.After-drop-bytes g) → AreLoaded (map string_bytes c.args.words.now) (g.S.Store.contents c.args.store.now) (command_of c.in-Ok.command) c.deref.result.now
-loaded g c = are_loaded _ _ (command_of c.in-Ok.command) c.name-name.result.now c.deref.result.now c.in-Ok.ensures.said c.name-name.ensures (search rules)
+abbrev outside_of : (g : Over) (c : goal.After-drop-bytes g) → Outside
+outside_of g c =
+    outside g.S.Store.contents g.S.Store.faults g.O.Sink.held g.O.Sink.faults g.E.Sink.held g.E.Sink.faults c.args.store.now c.tell.new.store c.args.out.now c.tell.new.out
+    c.args.err.now c.tell.new.err
 
-abbrev out_of : (g : Over) (c : goal.After-drop-bytes g) → Stream
-out_of g c = stream g.O.Sink.held g.O.Sink.faults c.args.out.now c.tell.new.out
+-- what the command was done with, and what it did
+has : (g : Over) (c : goal.After-drop-bytes g) → HasFile (g.S.Store.contents c.args.store.now) (name_of (command_of c.in-Ok.command)) c.deref.result.now
+has g c = has_named (g.S.Store.contents c.args.store.now) c.name-name.result.now _ c.deref.result.now c.in-Ok-load.bytes.items c.name-name.ensures c.deref.ensures.value c.in-Ok-load.ensures.found
 
-abbrev err_of : (g : Over) (c : goal.After-drop-bytes g) → Stream
-err_of g c = stream g.E.Sink.held g.E.Sink.faults c.args.err.now c.tell.new.err
+does : (g : Over) (c : goal.After-drop-bytes g) → Does c.tell.result (command_of c.in-Ok.command) c.deref.result.now (outside_of g c)
+does g c =
+    does_since c.tell.result (command_of c.in-Ok.command) c.deref.result.now _ _
+    (g.S.Store.contents c.args.store.now) (g.S.Store.contents c.load.new.self) (g.S.Store.contents c.tell.new.store)
+    (g.S.Store.faults c.args.store.now) (g.S.Store.faults c.load.new.self) (g.S.Store.faults c.tell.new.store)
+    c.load.ensures.unchanged c.load.ensures.counted c.tell.ensures.does
 
 pub returns-in-Ok-load-clause-checked : goal.returns-in-Ok-load-clause-checked
 returns-in-Ok-load-clause-checked g c =
-    ended-checked _ _ (command_of c.in-Ok.command) c.deref.result.now c.tell.result (out_of g c) (err_of g c) (loaded g c) c.tell.ensures.ends c.one_command.ensures
+    ended-checked _ (outside_of g c) (command_of c.in-Ok.command) c.deref.result.now c.tell.result c.in-Ok.ensures.said (has g c) c.one_command.ensures (does g c)
 
 pub returns-in-Ok-load-clause-told : goal.returns-in-Ok-load-clause-told
 returns-in-Ok-load-clause-told g c =
-    ended-told _ _ (command_of c.in-Ok.command) c.deref.result.now c.tell.result (out_of g c) (err_of g c) (loaded g c) c.tell.ensures.ends
-
-pub returns-in-Ok-load-clause-cut_off : goal.returns-in-Ok-load-clause-cut_off
-returns-in-Ok-load-clause-cut_off g c =
-    ended-cut_off _ _ (command_of c.in-Ok.command) c.deref.result.now c.tell.result (out_of g c) (err_of g c) (loaded g c) c.tell.ensures.ends
+    ended-told _ (outside_of g c) (command_of c.in-Ok.command) c.deref.result.now c.tell.result c.in-Ok.ensures.said (has g c) (does g c)
 
 pub returns-in-Ok-load-clause-answered : goal.returns-in-Ok-load-clause-answered
 returns-in-Ok-load-clause-answered g c =
-    ended-answered _ _ (command_of c.in-Ok.command) c.deref.result.now c.tell.result (out_of g c) (err_of g c) (loaded g c) c.tell.ensures.ends c.one_command.ensures _
+    ended-answered _ (outside_of g c) (command_of c.in-Ok.command) c.deref.result.now c.tell.result c.in-Ok.ensures.said (has g c) by_image c.one_command.ensures (does g c)
 
 pub returns-in-Ok-load-clause-exact : goal.returns-in-Ok-load-clause-exact
 returns-in-Ok-load-clause-exact g c =
-    ended-exact _ _ (command_of c.in-Ok.command) c.deref.result.now c.tell.result (out_of g c) (err_of g c) (loaded g c) c.tell.ensures.ends c.one_command.ensures
-    c.one_answer.ensures _
+    ended-exact _ (outside_of g c) (command_of c.in-Ok.command) c.deref.result.now c.tell.result c.in-Ok.ensures.said (has g c) by_image c.one_command.ensures c.one_answer.ensures (does g c)
+
+pub returns-in-Ok-load-clause-store_fault : goal.returns-in-Ok-load-clause-store_fault
+returns-in-Ok-load-clause-store_fault g c =
+    ended-store_fault _ (outside_of g c) (command_of c.in-Ok.command) c.deref.result.now c.tell.result c.in-Ok.ensures.said (has g c) (does g c)
 
 pub returns-in-Ok-load-clause-sink_fault : goal.returns-in-Ok-load-clause-sink_fault
 returns-in-Ok-load-clause-sink_fault g c =
-    ends-sink_fault c.tell.result (command_of c.in-Ok.command) c.deref.result.now (out_of g c) (err_of g c) c.tell.ensures.ends
+    λ fault. cut_off-failed _ (outside_of g c) (ended-cut_off _ (outside_of g c) (command_of c.in-Ok.command) c.deref.result.now c.tell.result c.in-Ok.ensures.said (has g c) (does g c) fault)
 
-pub returns-in-Ok-load-clause-out_no_memory : goal.returns-in-Ok-load-clause-out_no_memory
-returns-in-Ok-load-clause-out_no_memory g c = λ none.
-    (ends-no_memory c.tell.result (command_of c.in-Ok.command) c.deref.result.now (out_of g c) (err_of g c) c.tell.ensures.ends none).0
+pub returns-in-Ok-load-clause-cut_off : goal.returns-in-Ok-load-clause-cut_off
+returns-in-Ok-load-clause-cut_off g c =
+    ended-cut_off _ (outside_of g c) (command_of c.in-Ok.command) c.deref.result.now c.tell.result c.in-Ok.ensures.said (has g c) (does g c)
 
-pub returns-in-Ok-load-clause-err_no_memory : goal.returns-in-Ok-load-clause-err_no_memory
-returns-in-Ok-load-clause-err_no_memory g c = λ none.
-    (ends-no_memory c.tell.result (command_of c.in-Ok.command) c.deref.result.now (out_of g c) (err_of g c) c.tell.ensures.ends none).1
+pub returns-in-Ok-load-clause-unsaved : goal.returns-in-Ok-load-clause-unsaved
+returns-in-Ok-load-clause-unsaved g c =
+    ended-unsaved _ (outside_of g c) (command_of c.in-Ok.command) c.deref.result.now c.tell.result c.in-Ok.ensures.said (has g c) (does g c)
+
+pub returns-in-Ok-load-clause-ran_out : goal.returns-in-Ok-load-clause-ran_out
+returns-in-Ok-load-clause-ran_out g c =
+    ended-ran_out _ (outside_of g c) (command_of c.in-Ok.command) c.deref.result.now c.tell.result c.in-Ok.ensures.said (has g c) (does g c)
+
+pub returns-in-Err-NoMemory-load-clause-ran_out : goal.returns-in-Err-NoMemory-load-clause-ran_out
+returns-in-Err-NoMemory-load-clause-ran_out g c = λ none. inl (record {
+  quiet = record { out = refl; store = c.load.ensures.unchanged };
+  tells = c.tell_no_memory-in-Err-NoMemory-load.ensures.line;
+})
 
 pub returns-in-Err-Missing-clause-store_fault : goal.returns-in-Err-Missing-clause-store_fault
 returns-in-Err-Missing-clause-store_fault g c = λ fault.
     inr (lacks_named _ _ (command_of c.in-Ok.command) c.name-name.result.now c.in-Ok.ensures.said c.name-name.ensures (search rules))
 
-pub returns-in-Err-Missing-clause-err_store_fault : goal.returns-in-Err-Missing-clause-err_store_fault
-returns-in-Err-Missing-clause-err_store_fault g c = λ fault. (
-  command_of c.in-Ok.command,
-  c.in-Ok.ensures.said,
-  store_fault_under _ _ (stream g.E.Sink.held g.E.Sink.faults c.args.err.now c.tell_store_fault.new.err) c.name-name.ensures (c.tell_store_fault.ensures.line fault),
-)
+pub returns-in-Err-Missing-clause-unsaved : goal.returns-in-Err-Missing-clause-unsaved
+returns-in-Err-Missing-clause-unsaved g c = λ fault. inl (record {
+  command = command_of c.in-Ok.command;
+  said = c.in-Ok.ensures.said;
+  failed = record {
+    quiet = record { out = refl; store = c.load.ensures.unchanged };
+    name = c.name-name.result.now;
+    loads = inl c.name-name.ensures;
+    tells = c.tell_store_fault.ensures.line fault;
+  };
+})
 
-pub returns-in-Err-Failed-clause-err_store_fault : goal.returns-in-Err-Failed-clause-err_store_fault
-returns-in-Err-Failed-clause-err_store_fault g c = λ fault. (
-  command_of c.in-Ok.command,
-  c.in-Ok.ensures.said,
-  store_fault_under _ _ (stream g.E.Sink.held g.E.Sink.faults c.args.err.now c.tell_store_fault-in-Err-Failed.new.err) c.name-name.ensures (c.tell_store_fault-in-Err-Failed.ensures.line fault),
-)
+pub returns-in-Err-Missing-clause-ran_out : goal.returns-in-Err-Missing-clause-ran_out
+returns-in-Err-Missing-clause-ran_out g c = λ none. inl (record {
+  quiet = record { out = refl; store = c.load.ensures.unchanged };
+  tells = c.tell_store_fault.ensures.no_memory none;
+})
+
+pub returns-in-Err-Failed-clause-unsaved : goal.returns-in-Err-Failed-clause-unsaved
+returns-in-Err-Failed-clause-unsaved g c = λ fault. inl (record {
+  command = command_of c.in-Ok.command;
+  said = c.in-Ok.ensures.said;
+  failed = record {
+    quiet = record { out = refl; store = c.load.ensures.unchanged };
+    name = c.name-name.result.now;
+    loads = inl c.name-name.ensures;
+    tells = c.tell_store_fault-in-Err-Failed.ensures.line fault;
+  };
+})
+
+pub returns-in-Err-Failed-clause-ran_out : goal.returns-in-Err-Failed-clause-ran_out
+returns-in-Err-Failed-clause-ran_out g c = λ none. inl (record {
+  quiet = record { out = refl; store = c.load.ensures.unchanged };
+  tells = c.tell_store_fault-in-Err-Failed.ensures.no_memory none;
+})

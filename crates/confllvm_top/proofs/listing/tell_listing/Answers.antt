@@ -1,9 +1,11 @@
+use Rattle.std.proofs.Common.{refl}
 use Rattle.std.specs.String.{string_bytes}
 use Rattle.command_line.specs.Commands.{Disasm}
-use Rattle.confllvm_top.proofs.EndingLemmas.{out_ends}
+use Rattle.confllvm_top.specs.Plans.{line_out}
+use Rattle.confllvm_top.proofs.EndingLemmas.{does_alone}
 use Rattle.confllvm_top.proofs.listing.tell_listing.Goals as goal
 
-pub returns-clause-ends : goal.returns-clause-ends
-returns-clause-ends g c = λ name.
-    out_ends (Disasm name) c.args.bytes.now (string_bytes c.in-Ok.told.line) c.put_told.result c.in-Ok.told.status _ _
-    (λ got quiet. (got, quiet)) (λ front quiet. (front, quiet)) (c.in-Ok.ensures name) c.put_told.ensures.line
+pub returns-clause-does : goal.returns-clause-does
+returns-clause-does g c = λ name s still.
+    does_alone (Disasm name) c.args.bytes.now c.in-Ok.told.status c.put_told.result (line_out (string_bytes c.in-Ok.told.line)) _ refl (c.in-Ok.ensures name)
+    (c.put_told.ensures.ends s still)
