@@ -7,3 +7,5 @@ pub mod QuotedLemmas
 pub mod ReadsLemmas
 pub mod SignLemmas
 pub mod Steps
+pub mod StringLemmas
+pub mod TextLemmas

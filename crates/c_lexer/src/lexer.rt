@@ -2,6 +2,7 @@
 
 ghost use Rattle.c_lexer.specs.Reading.{piece_at};
 ghost use Rattle.c_lexer.specs.Tokens.{IsRefusal, IsTokenList, StopsAt};
+ghost use Rattle.c_lexer.specs.Texts.{LieIn};
 ghost use Rattle.c_lexer.specs.declared.tokens.Token.{Token};
 ghost use Rattle.std.specs.Prelude.{◌≡◌, ◌^◌, ◌<◌, ◌⊎◌, ℕ, drop, length, IfErr, IfOk, List};
 
@@ -110,4 +111,10 @@ pub fn one_reading()
         → StopsAt source place → StopsAt source other → place ≡ other }
     ensures either { (source : List ℕ) (tokens : List Token) (place : ℕ)
         → IsTokenList source tokens → StopsAt source place → ⊥ }
+{}
+
+/// Each token of a source has bytes that lie in it and spell its kind, the tokens' first places
+/// rise, and there are no more tokens than bytes.
+pub fn tokens_lie_in_source()
+    ensures { (source : List ℕ) (tokens : List Token) → IsTokenList source tokens → LieIn source tokens }
 {}

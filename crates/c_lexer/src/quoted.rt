@@ -1,10 +1,12 @@
 //! Characters and strings.
 
 ghost use Rattle.c_lexer.specs.Reading.{character_at, string_end};
-ghost use Rattle.c_lexer.specs.Spelling.{escaped, is_plain};
-ghost use Rattle.std.specs.Prelude.{◌≡◌, ◌<◌, drop, length};
+ghost use Rattle.c_lexer.specs.Spelling.{escaped, is_plain, IsStringText};
+ghost use Rattle.std.specs.Prelude.{◌≡◌, ◌<◌, ℕ, drop, length, IfOk, List};
 
 use crate::bytes::byte_at;
+use cv_word::NoMemory;
+use std::alloc::Global;
 
 /// The byte that `\` and this byte stand for.
 fn escaped(b: u8) -> Option<u8>
@@ -72,3 +74,32 @@ pub fn string_length(bytes: &[u8]) -> Option<usize>
     }
     None
 }
+
+/// The bytes that a string stands for, of its text with both quotes.
+pub fn string_bytes(alloc: Global, text: &[u8]) -> Result<Vec<u8>, NoMemory>
+    requires { (bytes : List ℕ) × IsStringText text.now bytes }
+    ensures { IfOk result (λ v. IsStringText text.now v.items) }
+{
+    let mut bytes = Vec::new(alloc);
+    let mut place = 1;
+    while place + 1 < text.len() {
+        let b = text[place];
+        if b == b'\\' {
+            match escaped(byte_at(text, place + 1)) {
+                Some(meant) => bytes.push(meant)?,
+                None => unreachable!(),
+            }
+            place += 2;
+        } else {
+            bytes.push(b)?;
+            place += 1;
+        }
+    }
+    Ok(bytes)
+}
+
+/// The text of a string stands for one list of bytes.
+pub fn one_string()
+    ensures { (text bytes others : List ℕ)
+        → IsStringText text bytes → IsStringText text others → bytes ≡ others }
+{}

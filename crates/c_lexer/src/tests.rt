@@ -1,4 +1,5 @@
-use crate::lexer::{lex, one_reading};
+use crate::lexer::{lex, one_reading, tokens_lie_in_source};
+use crate::quoted::one_string;
 use crate::tokens::TokenKind;
 use std::alloc::Global;
 use std::fmt::Write;
@@ -44,6 +45,8 @@ fn check(
 #[test]
 fn names(rt: HostRuntime) -> Result<(), Fail> {
     one_reading();
+    one_string();
+    tokens_lie_in_source();
     check(
         &rt,
         rt.alloc(),
