@@ -1,0 +1,2 @@
+-- Definitions on the trees.
+pub mod Nodes
