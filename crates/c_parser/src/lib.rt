@@ -1,0 +1,11 @@
+//! The program that a list of tokens is.
+//!
+//! `specs/Grammar.antt` is the grammar, a rule for each form, and `specs/Reading.antt` says what a reading
+//! is, how deep it nests each word, and what it builds. Words are tokens as the grammar sees them.
+#![tactic(auto)]
+
+mod grammar;
+mod words;
+
+pub use grammar::one_program;
+pub use words::{Terminal, Word};
