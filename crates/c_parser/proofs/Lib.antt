@@ -4,3 +4,6 @@ pub mod Tables
 pub mod Begins
 pub mod Picks
 pub mod Descents
+pub mod TerminalLemmas
+pub mod PathLemmas
+pub mod NumberLemmas

@@ -135,7 +135,7 @@ terminal_at-number Either = refl
 terminal_at-number Arrow = refl
 terminal_at-number Unused = refl
 
-terminal_is : (t u : Terminal) → same_terminal t u ≡ true → t ≡ u
+pub terminal_is : (t u : Terminal) → same_terminal t u ≡ true → t ≡ u
 terminal_is t u h = sym (terminal_at-number t) ∙ ap terminal_at (eqb-true (number_of t) (number_of u) h) ∙ terminal_at-number u
 
 no_or : (b : Bool) → (false || (false && b)) ≡ true → ⊥

@@ -5,3 +5,5 @@ pub mod Grammar
 pub mod Reading
 pub mod Ways
 pub mod Descent
+pub mod Programs
+pub mod Paths

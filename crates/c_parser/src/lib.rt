@@ -4,8 +4,12 @@
 //! is, how deep it nests each word, and what it builds. Words are tokens as the grammar sees them.
 #![tactic(auto)]
 
+mod errors;
 mod grammar;
+mod spot;
+mod types;
 mod words;
 
+pub use errors::ParseError;
 pub use grammar::one_program;
 pub use words::{Terminal, Word};

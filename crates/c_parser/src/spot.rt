@@ -1,0 +1,67 @@
+//! A place among the words, and the one way on from it: to take the word that is wanted.
+
+ghost use Rattle.c_parser.specs.Grammar.{T, L};
+ghost use Rattle.c_parser.specs.Paths.{Breaks, Leads, next_is};
+ghost use Rattle.c_parser.specs.Steps.{Leaf};
+ghost use Rattle.c_parser.specs.Terminals.{same_terminal};
+ghost use Rattle.std.specs.Prelude.{◌≡◌, ◌+◌, ◌^◌, ◌<◌, ◌≤◌, [], ◌∷◌, drop, length, IfErr, IfOk};
+
+use crate::errors::ParseError;
+use crate::words::{Terminal, Word};
+
+/// How deep a token may be nested.
+pub const NESTING: u32 = 200;
+
+/// A place among the words, and what counts in the nesting of a word there.
+#[derive(Clone, Copy, Debug)]
+pub struct Spot {
+    pub at: usize,
+    /// How many parts that nest stand around.
+    pub depth: u32,
+    /// How many operators and suffixes have ended in the outermost expression.
+    pub ended: u32,
+    /// How many stars have ended in the pointer.
+    pub stars: u32,
+}
+
+/// Whether two terminals are one.
+pub fn same_terminal(one: Terminal, other: Terminal) -> bool
+    ensures { result ≡ same_terminal one other }
+{
+    one as u8 == other as u8
+}
+
+/// Whether this terminal is next.
+pub fn next_is(words: &[Word], at: usize, wanted: Terminal) -> bool
+    ensures { result ≡ next_is (drop at words.now) wanted }
+{
+    at < words.len() && same_terminal(words[at].terminal, wanted)
+}
+
+/// The word that is wanted next, and the spot behind it. No other function takes a word, and here alone
+/// its nesting is tested.
+pub fn take(words: &[Word], spot: Spot, wanted: Terminal) -> Result<(Word, Spot), ParseError>
+    requires short { length words.now < 2 ^ 32 }
+    requires within { spot.at ≤ length words.now }
+    requires low { spot.depth + spot.ended + spot.stars < 2 ^ 32 }
+    ensures token { IfOk result (λ r. Leads NESTING words.now spot (T wanted ∷ []) r.1 []) }
+    ensures leaf { IfOk result (λ r. Leads NESTING words.now spot (L wanted ∷ []) r.1 (Leaf r.0.place r.0.value ∷ [])) }
+    ensures place { IfOk result (λ r. r.1 ≡ record spot { at = spot.at + 1 }) }
+    ensures nesting { IfOk result (λ r. spot.depth + spot.ended + spot.stars ≤ NESTING) }
+    ensures more { IfOk result (λ r. spot.at < length words.now) }
+    ensures no_token { IfErr result (Breaks NESTING words.now spot (T wanted ∷ [])) }
+    ensures no_leaf { IfErr result (Breaks NESTING words.now spot (L wanted ∷ [])) }
+{
+    let token = spot.at as u32;
+    if !next_is(words, spot.at, wanted) {
+        return Err(ParseError::SyntaxFault { token });
+    }
+    if spot.depth + spot.ended + spot.stars > NESTING {
+        return Err(ParseError::DepthFault { token });
+    }
+    let behind = Spot {
+        at: spot.at + 1,
+        ..spot
+    };
+    Ok((words[spot.at], behind))
+}
