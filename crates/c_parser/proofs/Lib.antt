@@ -7,3 +7,5 @@ pub mod Descents
 pub mod TerminalLemmas
 pub mod PathLemmas
 pub mod NumberLemmas
+pub mod FormLemmas
+pub mod TypeLemmas

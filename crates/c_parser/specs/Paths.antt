@@ -1,7 +1,9 @@
 -- What the parser's functions say of the descent. No public contract cites it.
 use Rattle.std.specs.Prelude.{◌≡◌, ℕ, ◌-◌, ◌*◌, ◌^◌, ◌<◌, ◌≤◌, Bool, false, List, [], ◌∷◌, ◌++◌, length, drop}
+use Rattle.std.specs.List.{All}
 use Rattle.c_parser.specs.declared.words.Word.{Word}
 use Rattle.c_parser.specs.declared.words.Terminal.{Terminal}
+use Rattle.c_parser.specs.declared.words.Terminal.TheVariants.{Name, String, Character}
 use Rattle.c_parser.specs.declared.spot.Spot.{Spot}
 use Rattle.c_parser.specs.declared.spot.TheConstants.{NESTING}
 use Rattle.c_parser.specs.declared.errors.ParseError.{ParseError}
@@ -43,9 +45,20 @@ abbrev pub next_is : List Word → Terminal → Bool
 next_is [] t = false
 next_is (w ∷ words) t = same_terminal w.terminal t
 
+-- what the value of a word is below: a name's and a string's number, and a character
+abbrev pub bound_of : Terminal → ℕ
+bound_of Name = 2 ^ 32
+bound_of String = 2 ^ 32
+bound_of Character = 256
+bound_of t = 2 ^ 64
+
+abbrev pub AreBounded : List Word → Type 0
+AreBounded words = All (λ w. w.value < bound_of w.terminal) words
+
 -- The parser can go on from a spot: what it counts is far from its types' bounds.
 pub record IsReady (words : List Word) (spot : Spot) : Type 0 where
   pub short : length words < 2 ^ 32
+  pub bounded : AreBounded words
   pub within : spot.at ≤ length words
   pub depth : spot.depth ≤ 2 * NESTING
   pub ended : spot.ended ≤ 2 * NESTING

@@ -1,8 +1,9 @@
 //! A place among the words, and the one way on from it: to take the word that is wanted.
 
 ghost use Rattle.c_parser.specs.Grammar.{T, L};
-ghost use Rattle.c_parser.specs.Paths.{Breaks, Leads, next_is};
+ghost use Rattle.c_parser.specs.Paths.{bound_of, Breaks, IsReady, Leads, next_is};
 ghost use Rattle.c_parser.specs.Steps.{Leaf};
+ghost use Rattle.c_parser.specs.declared.errors.ParseError.TheVariants.{SyntaxFault};
 ghost use Rattle.c_parser.specs.Terminals.{same_terminal};
 ghost use Rattle.std.specs.Prelude.{◌≡◌, ◌+◌, ◌^◌, ◌<◌, ◌≤◌, [], ◌∷◌, drop, length, IfErr, IfOk};
 
@@ -38,14 +39,24 @@ pub fn next_is(words: &[Word], at: usize, wanted: Terminal) -> bool
     at < words.len() && same_terminal(words[at].terminal, wanted)
 }
 
+/// The fault of the word that is next, or of the missing end.
+pub fn fault(words: &[Word], spot: Spot) -> ParseError
+    requires { IsReady words.now spot }
+    ensures { result ≡ SyntaxFault spot.at }
+{
+    let _ = words;
+    ParseError::SyntaxFault {
+        token: spot.at as u32,
+    }
+}
+
 /// The word that is wanted next, and the spot behind it. No other function takes a word, and here alone
 /// its nesting is tested.
 pub fn take(words: &[Word], spot: Spot, wanted: Terminal) -> Result<(Word, Spot), ParseError>
-    requires short { length words.now < 2 ^ 32 }
-    requires within { spot.at ≤ length words.now }
-    requires low { spot.depth + spot.ended + spot.stars < 2 ^ 32 }
+    requires { IsReady words.now spot }
     ensures token { IfOk result (λ r. Leads NESTING words.now spot (T wanted ∷ []) r.1 []) }
     ensures leaf { IfOk result (λ r. Leads NESTING words.now spot (L wanted ∷ []) r.1 (Leaf r.0.place r.0.value ∷ [])) }
+    ensures value { IfOk result (λ r. r.0.value < bound_of wanted) }
     ensures place { IfOk result (λ r. r.1 ≡ record spot { at = spot.at + 1 }) }
     ensures nesting { IfOk result (λ r. spot.depth + spot.ended + spot.stars ≤ NESTING) }
     ensures more { IfOk result (λ r. spot.at < length words.now) }
