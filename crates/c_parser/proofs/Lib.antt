@@ -9,3 +9,4 @@ pub mod PathLemmas
 pub mod NumberLemmas
 pub mod FormLemmas
 pub mod TypeLemmas
+pub mod Examples
