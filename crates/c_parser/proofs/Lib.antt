@@ -10,3 +10,4 @@ pub mod NumberLemmas
 pub mod FormLemmas
 pub mod TypeLemmas
 pub mod Examples
+pub mod TypeNameLemmas

@@ -7,6 +7,7 @@
 mod errors;
 mod grammar;
 mod spot;
+mod type_names;
 mod types;
 mod words;
 

@@ -4,7 +4,8 @@ ghost use Rattle.c_parser.specs.Grammar as form;
 ghost use Rattle.c_parser.specs.Grammar.{BaseType, N, PerhapsPrivate, Pointer};
 ghost use Rattle.c_parser.specs.Paths.{Breaks, IsReady, Parses};
 ghost use Rattle.c_parser.specs.Steps.{OfBase, OfSpecifier, Private, Stars};
-ghost use Rattle.std.specs.Prelude.{◌≡◌, [], ◌∷◌, IfErr, IfOk};
+ghost use Rattle.c_parser.specs.Ways.{can_begin, is_bare_void};
+ghost use Rattle.std.specs.Prelude.{◌≡◌, ◌^◌, ◌<◌, [], ◌∷◌, drop, length, IfErr, IfOk};
 
 use crate::errors::ParseError;
 use crate::spot::{NESTING, Spot, fault, next_is, take};
@@ -100,4 +101,30 @@ pub fn pointer(alloc: Global, words: &[Word], spot: Spot) -> Result<(Items<Star>
         here = behind;
     }
     Ok((stars, Spot { stars: 0, ..here }))
+}
+
+/// Whether a base type or `private` is next.
+pub fn begins_type(words: &[Word], at: usize) -> bool
+    ensures { result ≡ can_begin form.TypeName (drop at words.now) }
+{
+    next_is(words, at, Terminal::Char)
+        || next_is(words, at, Terminal::Int)
+        || next_is(words, at, Terminal::Long)
+        || next_is(words, at, Terminal::Void)
+        || next_is(words, at, Terminal::Struct)
+        || next_is(words, at, Terminal::Private)
+}
+
+/// Whether `void )` is next.
+pub fn is_bare_void(words: &[Word], at: usize) -> bool
+    requires { length words.now < 2 ^ 32 }
+    ensures { result ≡ is_bare_void (drop at words.now) }
+{
+    if at >= words.len() {
+        return false;
+    }
+    if !next_is(words, at, Terminal::Void) {
+        return false;
+    }
+    next_is(words, at + 1, Terminal::Close)
 }
