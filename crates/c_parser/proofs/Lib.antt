@@ -11,3 +11,4 @@ pub mod FormLemmas
 pub mod TypeLemmas
 pub mod Examples
 pub mod TypeNameLemmas
+pub mod DeclaratorLemmas

@@ -4,6 +4,7 @@
 //! is, how deep it nests each word, and what it builds. Words are tokens as the grammar sees them.
 #![tactic(auto)]
 
+mod declarators;
 mod errors;
 mod grammar;
 mod spot;
