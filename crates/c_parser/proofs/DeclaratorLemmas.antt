@@ -3,7 +3,7 @@ use Rattle.std.proofs.Common.{◌≡◌, ℕ, Bool, true, false, cond, List, [],
 use Rattle.std.proofs.lemmas.Bool.{cond-false}
 use Rattle.c_parser.specs.declared.words.Word.{Word}
 use Rattle.c_parser.specs.declared.words.Terminal.TheVariants.{Open}
-use Rattle.c_parser.specs.Grammar.{Declarator, Left, AfterPointer}
+use Rattle.c_parser.specs.Grammar.{Declarator, Parameter, Left, AfterPointer}
 use Rattle.c_parser.specs.Ways.{way_number}
 use Rattle.c_parser.specs.Paths.{next_is}
 
@@ -14,6 +14,10 @@ zero_either false n e = e
 pub declarator_number : (ws : List Word) → way_number Declarator ws ≡ 0
 declarator_number [] = refl
 declarator_number (w ∷ ws) = zero_either _ _ refl
+
+pub parameter_number : (ws : List Word) → way_number Parameter ws ≡ 0
+parameter_number [] = refl
+parameter_number (w ∷ ws) = zero_either _ _ refl
 
 zero_or_other : (a b : Bool) (n : ℕ) → n ≡ cond a 0 (cond b 1 0) → b ≡ false → n ≡ 0
 zero_or_other true b n e h = e

@@ -3,15 +3,15 @@
 ghost use Rattle.c_parser.specs.Grammar as form;
 ghost use Rattle.c_parser.specs.Grammar.{N, PerhapsLength};
 ghost use Rattle.c_parser.specs.Paths.{Breaks, IsReady, Parses};
-ghost use Rattle.c_parser.specs.Steps.{OfDeclarator, OfShape};
+ghost use Rattle.c_parser.specs.Steps.{OfDeclarator, OfParameter, OfShape};
 ghost use Rattle.std.specs.Prelude.{◌≡◌, [], ◌∷◌, IfErr, IfOk};
 
 use crate::errors::ParseError;
 use crate::spot::{NESTING, Spot, next_is, take};
 use crate::type_names::parameter_types;
-use crate::types::{perhaps_private, pointer};
+use crate::types::{perhaps_private, pointer, specifier};
 use crate::words::{Terminal, Word};
-use c_ast::program::{Declarator, Shape};
+use c_ast::program::{Declarator, Parameter, Shape};
 use std::alloc::Global;
 
 /// `[LENGTH]`, or nothing.
@@ -79,5 +79,23 @@ pub fn declarator(
             shape,
         },
         nine,
+    ))
+}
+
+/// A parameter: a type and a name.
+pub fn parameter(alloc: Global, words: &[Word], spot: Spot) -> Result<(Parameter, Spot), ParseError>
+    requires ready { IsReady words.now spot }
+    requires outside { spot.stars ≡ 0 }
+    ensures read { IfOk result (λ r. Parses words.now spot form.Parameter r.1 (OfParameter r.0)) }
+    ensures refused { IfErr result (Breaks NESTING words.now spot (N form.Parameter ∷ [])) }
+{
+    let (specifier, one) = specifier(words, spot)?;
+    let (declarator, two) = declarator(alloc, words, one)?;
+    Ok((
+        Parameter {
+            specifier,
+            declarator,
+        },
+        two,
     ))
 }
