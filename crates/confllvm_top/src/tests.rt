@@ -3,7 +3,7 @@
 mod gates;
 mod rows;
 
-use self::gates::{FILLS_OUTPUT, FILLS_PRIVATE_OUTPUT, GATES, TWO_CORES};
+use self::gates::{EIGHT_CORES, FILLS_OUTPUT, FILLS_PRIVATE_OUTPUT, GATES, ONE_STEP, TWO_CORES};
 use self::rows::{CODES, LISTINGS, PREFIX, RUNS};
 use super::*;
 use cv_io::{MemSink, MemStore, Store};
@@ -338,6 +338,102 @@ fn tells_what_two_cores_do(rt: HostRuntime) -> Result<(), Fail> {
         assert_eq!(rt; err.bytes(), text);
     }
     Ok(())
+}
+
+/// Runs the image of some cores over a schedule file, or over a round robin where that is empty, and asserts what it tells.
+fn assert_run(
+    rt: &impl Abort,
+    alloc: Global,
+    bytes: &[u8],
+    schedule: &[u8],
+    steps: &str,
+    wanted: (u8, &[u8], &[u8]),
+) -> Result<(), Fail> {
+    let line = if schedule.is_empty() {
+        words(alloc, &["run", "img", steps])?
+    } else {
+        words(alloc, &["run", "img", steps, "--schedule", "s"])?
+    };
+    let mut store = MemStore::new(alloc);
+    store.add("img", bytes)?;
+    store.add("s", schedule)?;
+    let (mut out, mut err) = (MemSink::new(alloc), MemSink::new(alloc));
+    let ended = confllvm(alloc, &line, &mut store, &mut out, &mut err);
+    assert_eq!(rt; ended.code(), wanted.0);
+    assert_eq!(rt; out.bytes(), wanted.1);
+    assert_eq!(rt; err.bytes(), wanted.2);
+    Ok(())
+}
+
+/// Eight cores that write one public word by turns, whoever is named first, and each 15 steps long.
+#[test]
+fn tells_what_eight_cores_do(rt: HostRuntime) -> Result<(), Fail> {
+    let alloc = rt.alloc();
+    let bytes = cores(alloc, &[8; 8], &EIGHT_CORES)?;
+    let told: &[u8] = b"\x10\x20\x30\x40\x50\x60\x70\x80";
+    let mut upwards = Vec::new(alloc);
+    let mut downwards = Vec::new(alloc);
+    for turn in 0..120u64 {
+        upwards.push((turn / 15) as u8)?;
+        downwards.push(7 - (turn / 15) as u8)?;
+    }
+    let (up, down) = (upwards.as_slice(), downwards.as_slice());
+    let image = bytes.as_slice();
+    assert_run(&rt, alloc, image, b"", "2000", (0, told, b"exit 0\n"))?;
+    assert_run(&rt, alloc, image, up, "120", (0, told, b"exit 0\n"))?;
+    assert_run(&rt, alloc, image, up, "119", (6, told, b"steps 119\n"))?;
+    assert_run(&rt, alloc, image, down, "120", (6, b"\x10", b"steps 120\n"))
+}
+
+/// A schedule of all values of a byte: those that name no core change nothing, and each core takes one step.
+#[test]
+fn tells_a_schedule_of_all_bytes(rt: HostRuntime) -> Result<(), Fail> {
+    let alloc = rt.alloc();
+    let cases: [(&[u8], u8, &[u8]); 3] = [
+        (&[8], 0, b"fault core 0 at 0x10009 Undefined\n"),
+        (&[8; 2], 1, b"fault core 1 at 0x10009 Undefined\n"),
+        (&[8; 8], 7, b"fault core 7 at 0x10009 Undefined\n"),
+    ];
+    for (entries, last, line) in cases {
+        let bytes = cores(alloc, entries, &ONE_STEP)?;
+        let mut all = Vec::new(alloc);
+        for core in 0..256u64 {
+            all.push(core as u8)?;
+        }
+        all.push(last)?;
+        assert_run(
+            &rt,
+            alloc,
+            bytes.as_slice(),
+            all.as_slice(),
+            "256",
+            (6, b"", b"steps 256\n"),
+        )?;
+        assert_run(
+            &rt,
+            alloc,
+            bytes.as_slice(),
+            all.as_slice(),
+            "257",
+            (5, b"", line),
+        )?;
+    }
+    assert_run(
+        &rt,
+        alloc,
+        &SMALL,
+        b"\xff\xff\0",
+        "2",
+        (6, b"", b"steps 2\n"),
+    )?;
+    assert_run(
+        &rt,
+        alloc,
+        &SMALL,
+        b"\xff\xff\0",
+        "3",
+        (5, b"", b"fault core 0 at 0x10008 Undefined\n"),
+    )
 }
 
 /// One call fails of a run that loads four files, puts, saves two and puts its line: what is told and saved then.
