@@ -1,4 +1,5 @@
-"""Images of several shapes: seconds of `verify` and of `objdump -D`, and steps a second of `run` and of an emulator."""
+"""Images of several shapes: seconds of `verify` and of `objdump -D`; steps a second of `run` over one core and eight, of code that calls
+gates, and of an emulator."""
 
 import os
 import shutil
@@ -87,9 +88,16 @@ def turns(size):
     return start + body + b"\xe9" + struct.pack("<i", -len(body) - 5)
 
 
-def image(code):
-    head = b"CFVI" + bytes([1, 1, 0, 0]) + PREFIX + bytes(2)
-    return head + struct.pack("<7I", 65536, 4096, len(code), 0, 0, 0, 8) + code
+def calls_gate(number, bit):
+    # a loop: mov edi, 4096; mov esi, 1024; a call of the gate; and back
+    body = bytes.fromhex("40bf00100000 40be00040000")
+    body += b"\xe8" + struct.pack("<i", 0x1000 + 16 * number - (0x10000 + len(CALL_WORD + body) + 5)) + bytes([bit, 0x22]) + PREFIX
+    return CALL_WORD + body + b"\xe9" + struct.pack("<i", -len(body) - 5)
+
+
+def image(code, cores=1):
+    head = b"CFVI" + bytes([1, cores, 0, 0]) + PREFIX + bytes(2)
+    return head + struct.pack(f"<{6 + cores}I", 65536, 4096, len(code), 0, 0, 0, *[8] * cores) + code
 
 
 def once(command, status):
@@ -138,9 +146,17 @@ def time_run(program, folder):
     # mov ecx, 1; then a loop: mov r8, 4096; a load of 8 bytes; add rax, rcx; a store; nop; and back
     body = bytes.fromhex("41b800100000 6567498b8000000000 4801c8 656749898000000000 90")
     code = CALL_WORD + bytes.fromhex("40b901000000") + body + b"\xe9" + struct.pack("<i", -len(body) - 5)
-    path = written(folder, "loop", image(code))
-    spent, _ = best([program, "run", path, "100000000"], status=6)
-    print(f"\n`run`: {100 / spent:.1f} million steps a second")
+    shapes = [
+        ("a loop", image(code)),
+        ("the loop on eight cores by turns", image(code, 8)),
+        ("calls of priv_get", image(calls_gate(6, 1))),
+        ("calls of priv_in with 1,024 bytes", image(calls_gate(4, 0))),
+        ("calls of pub_free of no block", image(calls_gate(10, 0))),
+    ]
+    print("\n| Code | `run`, million steps a second |\n|---|---|")
+    for name, data in shapes:
+        spent, _ = best([program, "run", written(folder, "loop", data), "30000000"], status=6)
+        print(f"| {name} | {30 / spent:.1f} |")
     if shutil.which("qemu-x86_64") and shutil.which("gcc"):
         source, loop = os.path.join(os.path.dirname(__file__), "loop.c"), os.path.join(folder, "loop.exe")
         subprocess.run(["gcc", "-O2", "-static", "-o", loop, source], check=True)
