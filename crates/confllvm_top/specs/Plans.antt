@@ -1,7 +1,9 @@
--- What a command means to tell, in this order: bytes that are put to `out`, files that are saved, bytes that are put to `err`.
+-- What a command means to tell, in this order: bytes that are put to `out`, in one put or by lines; files that are saved; bytes that are
+-- put to `err`.
 use Rattle.std.specs.Prelude.{◌≡◌, ◌⊎◌, ℕ, List, [], ◌∷◌, take, Option, Some, slice_get}
 use Rattle.cv_io.specs.Counts.{HasRisen}
 use Rattle.cv_io.specs.Files.{Files, files_with}
+use Rattle.cv_io.specs.Output.{AppendsFront}
 use Rattle.confllvm_top.specs.declared.status.Status.{Status}
 use Rattle.confllvm_top.specs.declared.status.Status.TheVariants.{StoreFault, SinkFault, NoMemory}
 use Rattle.confllvm_top.specs.Lines.{no_memory_line, store_fault_line}
@@ -61,13 +63,13 @@ pub record IsTold (plan : Plan) (out err : Stream) (s : Shelf) : Type 0 where
   pub has_saved : HasSaved plan.saves s
   pub has_told : HasGot plan.err err
 
--- a put failed, of which there is a front, and after which nothing was put or saved
+-- a put failed: there is a front of the bytes, and nothing was put or saved behind it
 abbrev pub IsCutOff : Plan → Stream → Stream → Shelf → Type 0
 IsCutOff plan out err s =
     (HasGotFront plan.out out × HasSaved [] s × HasGotNothing err)
     ⊎ (HasGot plan.out out × HasSaved plan.saves s × HasGotFront plan.err err)
 
--- so many of the files were saved, after the put
+-- so many of the files were saved, after all was put to `out`
 pub record HasSavedFront (plan : Plan) (count : ℕ) (out : Stream) (s : Shelf) : Type 0 where
   pub has_put : HasGot plan.out out
   pub has_saved : HasSaved (take count plan.saves) s
@@ -81,11 +83,11 @@ pub record IsUnsaved (plan : Plan) (out err : Stream) (s : Shelf) : Type 0 where
   pub faulted : HasFaulted s
   pub tells : MayHaveGot (store_fault_line saving.name) err
 
--- memory was refused: before anything was put, or behind the put and so many saves
+-- memory was refused: before all was put to `out`, or behind that and so many saves
 abbrev pub RanOut : Plan → Stream → Stream → Shelf → Type 0
 RanOut plan out err s =
     MayHaveGot no_memory_line err
-    × ((HasGotNothing out × HasSaved [] s) ⊎ ((count : ℕ) × HasSavedFront plan count out s))
+    × ((AppendsFront out.held_before plan.out out.held × HasSaved [] s) ⊎ ((count : ℕ) × HasSavedFront plan count out s))
 
 -- A plan that tells a status is carried out, and this is answered.
 abbrev pub PlanEnds : Status → Status → Plan → Stream → Stream → Shelf → Type 0

@@ -33,7 +33,7 @@ use std::alloc::Global;
 ///
 /// `verify` puts to `out` the line `accepted procedures P items I` of `Done`, or that of `Refused`,
 /// `refused V1 at place P` or `refused RULE at 0xA`. `disasm` puts to `out` the listing of the image's code,
-/// a line for each item, or that of `Refused`, which is by V1 or V2 alone. `run` takes no step where the
+/// a line for each item, each in a put of its own, or that of `Refused`, which is by V1 or V2 alone. `run` takes no step where the
 /// bytes are refused. Else it loads the schedule, the public and the private input, each if it is named, runs the image over the
 /// first STEPS bytes of the schedule or a round robin of STEPS entries, puts the public output to `out`, saves the private output and
 /// the audit, each if it is named, and ends with `Done`, `Fault`, `Steps` or `TrustFault`. Its lines go to `err`: that of

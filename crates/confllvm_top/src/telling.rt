@@ -1,14 +1,15 @@
 //! Telling how a command ends: lines that are put, and files that are saved.
 
-ghost use Rattle.std.specs.Prelude.{◌≡◌, ◌⊎◌, ◌≤◌, [], ◌++◌};
+ghost use Rattle.std.specs.Prelude.{◌≡◌, ◌⊎◌, ◌<◌, ◌≤◌, [], ◌++◌, length, IsErrOf, OnOk};
 ghost use Rattle.std.specs.String.{string_bytes};
 ghost use Rattle.command_line.specs.Words.{text_of};
+ghost use Rattle.cv_io.specs.Output.{AppendsFront};
 ghost use Rattle.confllvm_top.specs.Inputs.{saves_of};
 ghost use Rattle.confllvm_top.specs.Lines.{no_memory_line, store_fault_line};
 ghost use Rattle.confllvm_top.specs.Loads.{SavesAll, SavesNamed};
 ghost use Rattle.confllvm_top.specs.Plans.{HasSaved, PlanEnds, Shelf, line_err, line_out, shelf};
 ghost use Rattle.confllvm_top.specs.Running.{saving};
-ghost use Rattle.confllvm_top.specs.Streams.{HasGotNothing, MayHaveGot, Stream, stream};
+ghost use Rattle.confllvm_top.specs.Streams.{HasGot, HasGotFront, HasGotNothing, MayHaveGot, Stream, stream};
 
 use crate::lines;
 use crate::status::Status;
@@ -31,17 +32,49 @@ pub(crate) struct Saves<'a> {
     pub(crate) audit: &'a [u8],
 }
 
-/// Puts the line to `out`, and answers the status that it tells, if that goes well.
+/// Puts the lines to `out`, each by itself, and answers the status that they tell, if that goes well.
 pub(crate) fn put_told<O: Sink, E: Sink>(told: &Told, out: &mut O, err: &mut E) -> Status
     ensures ends { (s : Shelf) → HasSaved [] s → PlanEnds result told.now.status (line_out (string_bytes told.now.line)) (stream O.held O.faults out.old out.new) (stream E.held E.faults err.old err.new) s }
     ensures out_counted { O.faults out.old ≤ O.faults out.new }
     ensures err_counted { E.faults err.old ≤ E.faults err.new }
 {
-    match out.put(told.line.as_bytes()) {
+    match put_lines(told.line.as_bytes(), out) {
         Ok(()) => told.status,
         Err(SinkError::Failed) => Status::SinkFault,
         Err(SinkError::NoMemory) => tell_no_memory(err),
     }
+}
+
+/// Puts the lines of the text, each with its line feed in a put of its own, up to the first that fails.
+fn put_lines<O: Sink>(text: &[u8], out: &mut O) -> Result<(), SinkError>
+    ensures all { OnOk result (HasGot text.now (stream O.held O.faults out.old out.new)) }
+    ensures front { IsErrOf result SinkError.Failed → HasGotFront text.now (stream O.held O.faults out.old out.new) }
+    ensures short { IsErrOf result SinkError.NoMemory → AppendsFront (O.held out.old) text.now (O.held out.new) }
+    ensures counted { O.faults out.old ≤ O.faults out.new }
+{
+    let mut start = 0;
+    while start < text.len() {
+        let end = line_end(text, start);
+        match out.put(&text[start..end]) {
+            Ok(()) => start = end,
+            Err(error) => return Err(error),
+        }
+    }
+    Ok(())
+}
+
+/// The place behind the next line feed of the text, or its end.
+fn line_end(text: &[u8], start: usize) -> usize
+    requires { start < length text.now }
+    ensures more { start < result }
+    ensures inside { result ≤ length text.now }
+{
+    for i in start..text.len() {
+        if text[i] == b'\n' {
+            return i + 1;
+        }
+    }
+    text.len()
 }
 
 /// Puts the line to `err`, and answers the status that it tells, if that goes well.

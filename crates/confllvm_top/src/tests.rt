@@ -140,13 +140,14 @@ fn tells_an_entry_at_the_call_word(rt: HostRuntime) -> Result<(), Fail> {
 /// Words over a store that has the file `img` alone. Words are read before a file is loaded.
 #[test]
 fn tells_usage_and_a_missing_file(rt: HostRuntime) -> Result<(), Fail> {
-    let cases: [(&[&str], u8, &[u8]); 9] = [
+    let cases: [(&[&str], u8, &[u8]); 10] = [
         (&[], 2, b"usage fault\n"),
         (&["frobnicate"], 2, b"usage fault\n"),
         (&["verify"], 2, b"usage fault\n"),
         (&["verify", "gone"], 3, b"store fault gone\n"),
         (&["verify", "--", "-gone"], 3, b"store fault -gone\n"),
         (&["run", "gone", "1x"], 2, b"usage fault\n"),
+        (&["run", "img", "1000000001"], 2, b"usage fault\n"),
         (&["run", "gone", "5"], 3, b"store fault gone\n"),
         (&["disasm", "img", "img"], 2, b"usage fault\n"),
         (&["disasm", "gone"], 3, b"store fault gone\n"),
@@ -171,12 +172,19 @@ fn tells_a_failing_store_and_sink(rt: HostRuntime) -> Result<(), Fail> {
     assert_eq!(rt; err.bytes(), b"".as_slice());
 
     let listing = words(alloc, &["disasm", "img"])?;
-    let mut third = MemSink::new(alloc);
-    third.fail_at(1, 5)?;
-    let status = confllvm(alloc, &listing, &mut store, &mut third, &mut err);
-    assert_eq!(rt; status, Status::SinkFault);
-    assert_eq!(rt; third.bytes(), b"00010".as_slice());
-    assert_eq!(rt; err.bytes(), b"".as_slice());
+    // the first line of two, and then the second
+    let cases: [(u64, &[u8]); 2] = [
+        (1, b"00010"),
+        (2, b"00010000: 0f11a1a2a3a4a5a6 callword 0f\n00010"),
+    ];
+    for (put, told) in cases {
+        let mut third = MemSink::new(alloc);
+        third.fail_at(put, 5)?;
+        let status = confllvm(alloc, &listing, &mut store, &mut third, &mut err);
+        assert_eq!(rt; status, Status::SinkFault);
+        assert_eq!(rt; third.bytes(), told);
+        assert_eq!(rt; err.bytes(), b"".as_slice());
+    }
 
     let mut failing = MemStore::new(alloc);
     failing.add("img", &SMALL)?;
