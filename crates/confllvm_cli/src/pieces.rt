@@ -1,6 +1,7 @@
 //! Reading and writing by pieces, to the end or to the first fault.
 
-ghost use Rattle.std.specs.Prelude.{◌≡◌, ◌≤◌, IfOk, IfSome, IsErrOf, vec_len};
+ghost use Rattle.std.specs.Io.KnownBytes.{Appends};
+ghost use Rattle.std.specs.Prelude.{◌≡◌, ◌≤◌, true, IfOk, IfSome, IsErrOf, vec_len};
 
 use cv_io::{LONGEST_LOAD, StoreError};
 use std::alloc::Global;
@@ -30,21 +31,9 @@ pub fn read_all<R: Read + Drop>(
 }
 
 /// Writes all bytes, and answers whether that went well. A write that takes nothing has failed.
-pub fn write_all<W: Write>(writer: &mut W, bytes: &[u8]) -> bool {
-    let mut rest = bytes;
-    for _ in 0..u64::MAX {
-        if rest.is_empty() {
-            return true;
-        }
-        match writer.write(rest) {
-            Ok(0) => return false,
-            Ok(count) => rest = &rest[count..],
-            Err(error) => {
-                if error.kind() != io::ErrorKind::Interrupted {
-                    return false;
-                }
-            }
-        }
-    }
-    false
+pub fn write_all<W: Write>(writer: &mut W, bytes: &[u8]) -> bool
+    // Where it went well and the writer's bytes are known, these stand behind them.
+    ensures all { result ≡ true → Appends (W.contents writer.old) (W.contents writer.new) bytes.now }
+{
+    writer.write_all(bytes).is_ok()
 }

@@ -1,6 +1,7 @@
 //! Files written and read back, and streams that fail.
 
 use crate::files::FileStore;
+use crate::pieces::read_all;
 use crate::streams::Stream;
 use cv_io::{Sink, SinkError, Store, StoreError};
 use std::test::Fail;
@@ -47,5 +48,34 @@ fn a_write_that_takes_nothing_fails(rt: HostRuntime) -> Result<(), Fail> {
     assert_eq!(rt; stream.put(b"abc"), Ok(()));
     assert_eq!(rt; stream.put(b""), Ok(()));
     assert_eq!(rt; stream.put(b"def"), Err(SinkError::Failed));
+    Ok(())
+}
+
+/// Gives so many bytes, one at a time, and then fails.
+#[derive(Drop)]
+struct Broken {
+    left: usize,
+}
+
+impl io::Read for Broken {
+    fn read(&mut self, buf: &mut [u8]) -> io::Result<usize> {
+        if self.left == 0 {
+            return Err(io::ErrorKind::BrokenPipe.into());
+        }
+        if buf.is_empty() {
+            return Ok(0);
+        }
+        self.left -= 1;
+        buf[0] = 7;
+        Ok(1)
+    }
+}
+
+#[test]
+fn a_read_that_fails_behind_some_bytes_fails(rt: HostRuntime) -> Result<(), Fail> {
+    for left in 0..4 {
+        let read = read_all(rt.alloc(), Broken { left }, 8).err();
+        assert_eq!(rt; read, Some(StoreError::Failed));
+    }
     Ok(())
 }
