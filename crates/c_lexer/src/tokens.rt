@@ -4,7 +4,7 @@ ghost use Rattle.c_lexer.specs.declared.tokens.LexError.TheVariants.{NoMemory};
 ghost use Rattle.std.specs.Prelude.{◌≡◌};
 
 use std::alloc::AllocFailed;
-use std::fmt;
+use thiserror::Error;
 
 /// What a token is.
 #[derive(Clone, Copy, Debug, PartialEq, Eq)]
@@ -35,25 +35,16 @@ pub struct Token {
 }
 
 /// Why a source has no tokens.
-#[derive(Clone, Copy, Debug, PartialEq, Eq)]
+#[derive(Clone, Copy, Debug, PartialEq, Eq, Error)]
 pub enum LexError {
     /// Memory was refused. With ample memory it isn't.
+    #[error("no memory")]
     NoMemory,
     /// The first place, after spaces and comments, where no token begins. A comment that isn't
     /// closed, and a number with a letter, a digit or `_` right after it, are told at their start.
+    #[error("no token at {place}")]
     LexFault { place: u32 },
 }
-
-impl fmt::Display for LexError {
-    fn fmt<W: fmt::Write>(&self, f: &mut fmt::Formatter<W>) -> fmt::Result {
-        match self {
-            LexError::NoMemory => write!(f, "no memory"),
-            LexError::LexFault { place } => write!(f, "no token at {place}"),
-        }
-    }
-}
-
-impl std::error::Error for LexError {}
 
 impl<T: Drop> From<AllocFailed<T>> for LexError {
     ghost from_gives = { λ _ e. e ≡ NoMemory };

@@ -8,13 +8,16 @@ ghost use Rattle.code_sweep.specs.declared.sweeping.SweepError.TheVariants.{NoMe
 use crate::item::{Listing, Placed};
 use crate::place::item_at;
 use std::alloc::{AllocError, AllocFailed, Global};
+use thiserror::Error;
 
 /// Why a code has no listing.
-#[derive(Clone, Copy, Debug, PartialEq, Eq)]
+#[derive(Clone, Copy, Debug, PartialEq, Eq, Error)]
 pub enum SweepError {
     /// Memory was refused.
+    #[error("no memory")]
     NoMemory,
     /// The first place in the chain where no item begins.
+    #[error("no item at place {at}")]
     NoItem { at: u32 },
 }
 

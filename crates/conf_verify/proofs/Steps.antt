@@ -15,7 +15,7 @@ use Rattle.taint_flow.specs.Places.{goes_on, NextStands}
 use Rattle.image_form.specs.Image.{Image, IsGood}
 use Rattle.conf_verify.specs.declared.rule.Rule.{Rule}
 use Rattle.conf_verify.specs.declared.rule.Rule.TheVariants.{V3, V4, V5, V6, V7, V8, V9}
-use Rattle.conf_verify.specs.Rules.{BreaksShape, BreaksPrefix, HasReturnWord, fits_result, FollowsCall, BreaksEntries, IsLast, is_call_word, may_end, is_flow_rule, rule_number}
+use Rattle.conf_verify.specs.Rules.{BreaksEnds, BreaksShape, BreaksPrefix, HasReturnWord, fits_result, FollowsCall, BreaksEntries, IsLast, is_call_word, may_end, is_flow_rule, rule_number}
 use Rattle.taint_flow.specs.Calls.{callee, call_target, is_call}
 use Rattle.conf_verify.specs.Search.{BadBy, BadEnd, BadReturn, BadJump, BadCall, BadResult, BadOccurrence, is_item_rule}
 use Rattle.conf_verify.specs.Verdict.{HasListing}
@@ -160,13 +160,16 @@ falls_on (Plain (instr.Jmp rel)) e = absurd (true≢false (sym e))
 falls_on (Plain instr.Ud2) e = absurd (true≢false (sym e))
 falls_on (Plain _) e = refl
 
-pub next_stands : (image : Image) (items : List Placed) → HoldsBelow image items 4 → NextStands items
-next_stands image items below i p e on =
+pub next_from_ends : (items : List Placed) → ((place : ℕ) → BreaksEnds items place → ⊥) → NextStands items
+next_from_ends items keeps i p e on =
     let inside = slice_get_within items i p e in
     elim (cases_order (suc i) (length items)) [
-      | inl last ↦ absurd (below V3 p.at (omega arith) (i, p, e, refl, inr (inl last, falls_on p.item on)))
+      | inl last ↦ absurd (keeps p.at (i, p, e, refl, inr (inl last, falls_on p.item on)))
       | inr h ↦ elim h [ inl low ↦ low | inr past ↦ omega arith ]
     ]
+
+pub next_stands : (image : Image) (items : List Placed) → HoldsBelow image items 4 → NextStands items
+next_stands image items below = next_from_ends items (λ place b. below V3 place (omega arith) b)
 
 -- ---- V4
 

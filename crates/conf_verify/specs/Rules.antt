@@ -1,6 +1,6 @@
 -- What breaks each rule, and where. The address of a place in the code is the code's base plus the place.
 use Rattle.std.specs.Prelude.{◌≡◌, ◌≢◌, ℕ, suc, ◌+◌, ◌==◌, Bool, true, false, ◌⊎◌, List, [], ◌∷◌, length, take, Option, Some, None, slice_get, if◌then◌else◌}
-use Rattle.std.specs.Int.{bit_at}
+use Rattle.cv_word.specs.CallBits.{result_bit_of}
 use Rattle.std.specs.Option.{option_or}
 use Rattle.x64_decode.specs.declared.instr.Instr.{Instr}
 use Rattle.x64_decode.specs.declared.instr.Instr.TheVariants as instr
@@ -77,7 +77,7 @@ HasReturnWord items i bit = (q : Placed) × (slice_get items (suc i) ≡ Some q)
 -- the bit of a return word fits what is called: it is bit 4 of the callee's bits; where a direct call has a bad target, any does
 abbrev pub fits_result : Option ℕ → ℕ → Bool
 fits_result None bit = true
-fits_result (Some bits) bit = bit == bit_at bits 4
+fits_result (Some bits) bit = bit == result_bit_of bits
 
 -- a call stands before item i
 abbrev pub FollowsCall : List Placed → ℕ → Type 0
@@ -115,7 +115,7 @@ procedure_bits items i = last_bits (take (suc i) items)
 abbrev pub BreaksResults : List Placed → ℕ → Type 0
 BreaksResults items place =
     (i : ℕ) × (p : Placed) × (bit bits : ℕ) × (slice_get items i ≡ Some p) × (p.at ≡ place) ×
-    (p.item ≡ ReturnUnit bit) × (procedure_bits items i ≡ Some bits) × (bit ≢ bit_at bits 4)
+    (p.item ≡ ReturnUnit bit) × (procedure_bits items i ≡ Some bits) × (bit ≢ result_bit_of bits)
 
 -- V9: an entry that doesn't follow a call word
 abbrev pub FollowsCallWord : List Placed → ℕ → Type 0

@@ -1,6 +1,6 @@
 -- The first of so many items at which something is bad, by its number; and the least number that is bad.
 use Rattle.std.specs.Prelude.{◌≡◌, ◌≢◌, ◌<◌, ◌≤◌, ℕ, ◌+◌, min, Bool, true, false, ◌⊎◌, List, length, Option, Some, None, MatchOption, slice_get, slice_index}
-use Rattle.std.specs.Int.{bit_at}
+use Rattle.cv_word.specs.CallBits.{result_bit_of}
 use Rattle.code_sweep.specs.declared.item.Item.{Item}
 use Rattle.code_sweep.specs.declared.item.Item.TheVariants.{Ret, ReturnUnit}
 use Rattle.code_sweep.specs.declared.item.Placed.{Placed}
@@ -57,7 +57,7 @@ BadCall items i = (p : Placed) × (target : ℕ) × (slice_get items i ≡ Some 
 -- item i is a return unit whose bit isn't that of its procedure
 abbrev pub BadResult : List Placed → ℕ → Type 0
 BadResult items i =
-    (p : Placed) × (bit bits : ℕ) × (slice_get items i ≡ Some p) × (p.item ≡ ReturnUnit bit) × (procedure_bits items i ≡ Some bits) × (bit ≢ bit_at bits 4)
+    (p : Placed) × (bit bits : ℕ) × (slice_get items i ≡ Some p) × (p.item ≡ ReturnUnit bit) × (procedure_bits items i ≡ Some bits) × (bit ≢ result_bit_of bits)
 
 -- the item is no word, doesn't call, and is no return unit: V5, V7 and V8 don't speak of it
 pub record IsQuiet (p : Placed) : Type 0 where
@@ -85,7 +85,7 @@ BadBy _ items = λ i. ⊥
 
 -- the item is a return unit whose bit isn't bit 4 of these bits
 abbrev pub IsBadResult : Item → Option ℕ → Type 0
-IsBadResult item procedure = (bit bits : ℕ) × (item ≡ ReturnUnit bit) × (procedure ≡ Some bits) × (bit ≢ bit_at bits 4)
+IsBadResult item procedure = (bit bits : ℕ) × (item ≡ ReturnUnit bit) × (procedure ≡ Some bits) × (bit ≢ result_bit_of bits)
 
 -- the bit of a return word
 abbrev pub ret_bit : Item → Option ℕ

@@ -9,6 +9,7 @@ ghost use Rattle.conf_verify.specs.Rules.{FollowsCall, HasReturnWord, fits_resul
 ghost use Rattle.conf_verify.specs.Search.{BadCall, BadResult, BadReturn, IsBadResult, IsQuiet, ret_bit};
 
 use code_sweep::{Item, Placed};
+use cv_word::result_bit;
 use taint_flow::{ItemNumbers, call_target, callee, is_call};
 use x64_decode::Instr;
 
@@ -27,7 +28,7 @@ fn fits_result(called: Option<u8>, bit: u8) -> bool
     ensures { result ≡ fits_result called bit }
 {
     match called {
-        Some(bits) => bit == bits >> 4 & 1,
+        Some(bits) => bit == result_bit(bits),
         None => true,
     }
 }
@@ -127,7 +128,7 @@ pub fn is_bad_result(item: &Item, procedure: Option<u8>) -> bool
         return false;
     };
     match *item {
-        Item::ReturnUnit(bit) => bit != bits >> 4 & 1,
+        Item::ReturnUnit(bit) => bit != result_bit(bits),
         _ => false,
     }
 }

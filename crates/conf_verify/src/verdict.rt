@@ -26,6 +26,7 @@ use std::alloc::Global;
 use std::marker::{Brand, Model};
 use std::sync::ledger::Blank;
 use taint_flow::{ItemNumbers, item_numbers};
+use thiserror::Error;
 
 /// How many procedures a code has, and how many items that are no words.
 #[derive(Clone, Copy, Debug, PartialEq, Eq)]
@@ -69,11 +70,13 @@ impl<'a> Verified<'a> {
 }
 
 /// Why bytes were not accepted.
-#[derive(Clone, Copy, Debug, PartialEq, Eq)]
+#[derive(Clone, Copy, Debug, PartialEq, Eq, Error)]
 pub enum VerifyError {
     /// Memory was refused.
+    #[error("no memory")]
     NoMemory,
     /// The verdict: a rule and where it is broken, for V1 a place in the file, else a flat address.
+    #[error("{rule:?} is broken at {at:#x}")]
     Refused { rule: Rule, at: u64 },
 }
 

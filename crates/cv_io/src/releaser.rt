@@ -3,19 +3,12 @@
 ghost use Rattle.std.specs.Prelude.{◌≡◌, length};
 ghost use Rattle.cv_io.specs.Releasers.{Known, Releases};
 
-use std::fmt;
+use thiserror::Error;
 
 /// A releaser has not answered a request, and has counted it as a fault.
-#[derive(Clone, Copy, Debug, PartialEq, Eq)]
+#[derive(Clone, Copy, Debug, PartialEq, Eq, Error)]
+#[error("the releaser has failed")]
 pub struct TrustFault;
-
-impl fmt::Display for TrustFault {
-    fn fmt<W: fmt::Write>(&self, f: &mut fmt::Formatter<W>) -> fmt::Result {
-        write!(f, "the releaser has failed")
-    }
-}
-
-impl std::error::Error for TrustFault {}
 
 /// A releaser: it is asked with private bytes, and answers as many bytes that may become public.
 ///

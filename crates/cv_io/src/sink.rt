@@ -6,27 +6,18 @@ ghost use Rattle.cv_io.specs.Counts.{HasRisen};
 ghost use Rattle.cv_io.specs.Output.{AppendsFront, appended};
 
 use std::alloc::{AllocError, AllocFailed};
-use std::fmt;
+use thiserror::Error;
 
 /// Why a sink did not take all bytes.
-#[derive(Clone, Copy, Debug, PartialEq, Eq)]
+#[derive(Clone, Copy, Debug, PartialEq, Eq, Error)]
 pub enum SinkError {
     /// Memory was refused.
+    #[error("no memory")]
     NoMemory,
     /// The sink has failed, and has counted it as a fault.
+    #[error("the sink has failed")]
     Failed,
 }
-
-impl fmt::Display for SinkError {
-    fn fmt<W: fmt::Write>(&self, f: &mut fmt::Formatter<W>) -> fmt::Result {
-        match self {
-            SinkError::NoMemory => write!(f, "no memory"),
-            SinkError::Failed => write!(f, "the sink has failed"),
-        }
-    }
-}
-
-impl std::error::Error for SinkError {}
 
 impl From<AllocError> for SinkError {
     ghost from_gives = { λ _ e. e ≡ NoMemory };

@@ -6,33 +6,24 @@ ghost use Rattle.cv_io.specs.Counts.{HasRisen};
 ghost use Rattle.cv_io.specs.Files.{Files, HasFile, LacksFile, files_with};
 
 use std::alloc::{AllocError, AllocFailed, Global};
-use std::fmt;
+use thiserror::Error;
 
 /// The most bytes that a load answers. A load of a longer file is a failed load.
 pub const LONGEST_LOAD: usize = 268_435_456;
 
 /// Why a store did not do what it was asked.
-#[derive(Clone, Copy, Debug, PartialEq, Eq)]
+#[derive(Clone, Copy, Debug, PartialEq, Eq, Error)]
 pub enum StoreError {
     /// Memory was refused.
+    #[error("no memory")]
     NoMemory,
     /// The store tells its files, and has none of this name. A save never answers it.
+    #[error("no such file")]
     Missing,
     /// The store has failed, and has counted it as a fault.
+    #[error("the store has failed")]
     Failed,
 }
-
-impl fmt::Display for StoreError {
-    fn fmt<W: fmt::Write>(&self, f: &mut fmt::Formatter<W>) -> fmt::Result {
-        match self {
-            StoreError::NoMemory => write!(f, "no memory"),
-            StoreError::Missing => write!(f, "no such file"),
-            StoreError::Failed => write!(f, "the store has failed"),
-        }
-    }
-}
-
-impl std::error::Error for StoreError {}
 
 impl From<AllocError> for StoreError {
     ghost from_gives = { λ _ e. e ≡ NoMemory };

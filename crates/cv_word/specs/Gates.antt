@@ -1,5 +1,6 @@
 -- The gates: services at fixed addresses that code may call. Which there are, and what a caller may leave private.
 use Rattle.std.specs.Prelude.{ℕ, ◌+◌, ◌-◌, ◌*◌, ◌/◌, ◌%◌, ◌==◌, ◌&&◌, List, [], ◌∷◌, Option, None, map, slice_get, nat_le, if◌then◌else◌}
+use Rattle.cv_word.specs.CallBits.{result_bit_of}
 use Rattle.cv_word.specs.declared.gates.Gate.{Gate}
 use Rattle.cv_word.specs.declared.gates.Gate.TheVariants.{Exit, CoreEnd, PubIn, PubOut, PrivIn, PrivOut, PrivGet, PrivPut, PubAlloc, PrivAlloc, PubFree, PrivFree, Release}
 
@@ -30,9 +31,9 @@ bits_of PubFree = 0x0e
 bits_of PrivFree = 0x0e
 bits_of Release = 0x00
 
--- bit 4 of the bits: the result is private
+-- the bit of its result
 abbrev pub result_bit : Gate → ℕ
-result_bit gate = bits_of gate / 16
+result_bit gate = result_bit_of (bits_of gate)
 
 abbrev pub gate_table : List ℕ
 gate_table = map bits_of gates

@@ -4,6 +4,7 @@ pub mod Arithmetic
 pub mod MemoryMap
 pub mod Memory
 pub mod Marks
+pub mod CallBits
 pub mod Gates
 pub mod Heap
 pub mod GateStep

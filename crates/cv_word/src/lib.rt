@@ -4,6 +4,7 @@
 //! contracts here are equations with the definitions of `specs/`, which the crates above cite too.
 #![tactic(auto)]
 
+mod call_bits;
 mod fault;
 mod gates;
 mod items;
@@ -13,6 +14,7 @@ mod registers;
 mod steps;
 mod words;
 
+pub use call_bits::{may_pass_private, result_bit};
 pub use fault::FaultKind;
 pub use gates::{Arguments, Gate, gate_bits};
 pub use items::copy_items;

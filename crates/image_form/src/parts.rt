@@ -1,7 +1,7 @@
 //! The parts of an image.
 
 use arrayvec::ArrayVec;
-use std::fmt;
+use thiserror::Error;
 
 /// What an image file holds. The code and the start bytes lie in the file's own bytes.
 #[derive(Debug, Drop)]
@@ -23,16 +23,9 @@ pub struct Parts<'a> {
 }
 
 /// A file is no image.
-#[derive(Clone, Copy, Debug, PartialEq, Eq)]
+#[derive(Clone, Copy, Debug, PartialEq, Eq, Error)]
+#[error("no image at place {place}")]
 pub struct FormFault {
     /// The place in the file of the first byte of the first wrong field, or of the first byte too many.
     pub place: u32,
 }
-
-impl fmt::Display for FormFault {
-    fn fmt<W: fmt::Write>(&self, f: &mut fmt::Formatter<W>) -> fmt::Result {
-        write!(f, "no image at place {}", self.place)
-    }
-}
-
-impl std::error::Error for FormFault {}

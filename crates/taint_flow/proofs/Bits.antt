@@ -8,6 +8,7 @@ use Rattle.std.proofs.lemmas.Nat.{one_shl}
 use mathlib.Core.Path.{fun_ext}
 use mathlib.Core.Bool.{beq}
 use Rattle.x64_decode.specs.declared.instr.Reg.TheVariants.{Rcx, Rdx, Rsi, Rdi}
+use Rattle.cv_word.specs.CallBits.{may_pass_private}
 use Rattle.taint_flow.specs.Label.{Label, IsAtMost, set, set_reg, entry_label}
 use Rattle.taint_flow.specs.Bits.{label_of}
 
@@ -46,23 +47,21 @@ all_is = fun_ext (λ k. all_at k (cases_lt k 17))
 
 -- all names but rsp, and then the four arguments by their bits
 pub entry_is : (bits : ℕ) (rdi rsi rdx rcx : Bool) →
-    rdi ≡ label_of bits 0 → rsi ≡ label_of bits 1 → rdx ≡ label_of bits 2 → rcx ≡ label_of bits 3 →
+    rdi ≡ may_pass_private bits 0 → rsi ≡ may_pass_private bits 1 → rdx ≡ may_pass_private bits 2 → rcx ≡ may_pass_private bits 3 →
     set_reg Rdi rdi (set_reg Rsi rsi (set_reg Rdx rdx (set_reg Rcx rcx (label_of 0x1ffef)))) ≡ entry_label bits
 unfolding entry_label
 entry_is bits rdi rsi rdx rcx e0 e1 e2 e3 = rw (all_is, e0, e1, e2, e3)
 
-pub entry_steps : (bits given n1 n2 n3 n4 : ℕ) (rdi rsi rdx rcx : Bool) → given ≡ bits →
-    rdi ≡ label_of given 0 → rsi ≡ label_of given 1 → rdx ≡ label_of given 2 → rcx ≡ label_of given 3 →
+pub entry_steps : (bits n1 n2 n3 n4 : ℕ) (rdi rsi rdx rcx : Bool) →
+    rdi ≡ may_pass_private bits 0 → rsi ≡ may_pass_private bits 1 → rdx ≡ may_pass_private bits 2 → rcx ≡ may_pass_private bits 3 →
     label_of n1 ≡ set_reg Rcx rcx (label_of 0x1ffef) →
     label_of n2 ≡ set_reg Rdx rdx (label_of n1) →
     label_of n3 ≡ set_reg Rsi rsi (label_of n2) →
     label_of n4 ≡ set_reg Rdi rdi (label_of n3) →
     label_of n4 ≡ entry_label bits
-entry_steps bits given n1 n2 n3 n4 rdi rsi rdx rcx g e0 e1 e2 e3 s1 s2 s3 s4 =
-    let whole : set_reg Rdi rdi (set_reg Rsi rsi (set_reg Rdx rdx (set_reg Rcx rcx (label_of 0x1ffef)))) ≡ entry_label given =
-    entry_is given rdi rsi rdx rcx e0 e1 e2 e3 in
+entry_steps bits n1 n2 n3 n4 rdi rsi rdx rcx e0 e1 e2 e3 s1 s2 s3 s4 =
     s4 ∙ ap (λ (l : Label). set_reg Rdi rdi l) (s3 ∙ ap (λ (l : Label). set_reg Rsi rsi l) (s2 ∙ ap (λ (l : Label). set_reg Rdx rdx l) s1))
-    ∙ whole ∙ ap entry_label g
+    ∙ entry_is bits rdi rsi rdx rcx e0 e1 e2 e3
 
 -- two answers that a test told apart
 pub beq_apart : (a b : Bool) → beq a b ≡ false → a ≡ b → ⊥

@@ -2,10 +2,7 @@
 use Rattle.std.proofs.Common.{◌∙◌, ◌≡◌, ℕ, zero, suc, ◌+◌, ◌<◌, ◌≤◌, List, [], ◌∷◌, length, ap, arith, Some}
 use Rattle.std.specs.List.{slice_get}
 use Rattle.std.proofs.lemmas.Option.{same_Some, none-some}
-use Rattle.x64_decode.specs.Spelling.{spelling}
-use Rattle.x64_decode.specs.declared.instr.Instr.{Instr}
-use Rattle.x64_decode.specs.declared.instr.Instr.TheVariants as instr
-use Rattle.x64_decode.specs.declared.instr.Instr.TheVariants.{Alu, AluImm, CallR10, Cmov, CmpFlat, Cqo, Idiv, Imul, Jcc, Jmp, JmpR10, Load, LoadSx32, LoadSx8, LoadZx8, Mov, MovImm32, MovImm64, MovImmS, Movsx8, Movsxd, Movzx8, Neg, Nop, Not, Setcc, ShiftCl, ShiftImm, Store, Test, Ud2}
+use Rattle.x64_decode.proofs.Laws.{spelling_length}
 use Rattle.code_sweep.specs.declared.item.Item.{Item}
 use Rattle.code_sweep.specs.declared.item.Item.TheVariants.{Call, Plain}
 use Rattle.code_sweep.specs.declared.item.Placed.{Placed}
@@ -48,45 +45,10 @@ order_from_rise items code r = record {
   rising = λ i j p q e f h. apart 0 items (length code) i j p q r e f h;
 }
 
-spelled_some : (i : Instr) → 0 < length (spelling i)
-unfolding spelling
-spelled_some (Mov wide dst src) = omega arith
-spelled_some (Alu op dst src) = omega arith
-spelled_some (Test a b) = omega arith
-spelled_some (Imul dst src) = omega arith
-spelled_some (Not r) = omega arith
-spelled_some (Neg r) = omega arith
-spelled_some (Idiv r) = omega arith
-spelled_some Cqo = omega arith
-spelled_some (ShiftImm op r count) = omega arith
-spelled_some (ShiftCl op r) = omega arith
-spelled_some (Movsxd dst src) = omega arith
-spelled_some (Movzx8 dst src) = omega arith
-spelled_some (Movsx8 dst src) = omega arith
-spelled_some (Setcc k r) = omega arith
-spelled_some (Cmov k dst src) = omega arith
-spelled_some (MovImm32 dst imm) = omega arith
-spelled_some (MovImm64 dst imm) = omega arith
-spelled_some (MovImmS dst imm) = omega arith
-spelled_some (AluImm op dst imm) = omega arith
-spelled_some (Load wide dst mem) = omega arith
-spelled_some (LoadZx8 dst mem) = omega arith
-spelled_some (LoadSx8 dst mem) = omega arith
-spelled_some (LoadSx32 dst mem) = omega arith
-spelled_some (Store width mem src) = omega arith
-spelled_some CmpFlat = omega arith
-spelled_some JmpR10 = omega arith
-spelled_some CallR10 = omega arith
-spelled_some (instr.Call rel) = omega arith
-spelled_some (Jmp rel) = omega arith
-spelled_some (Jcc k rel) = omega arith
-spelled_some Ud2 = omega arith
-spelled_some Nop = omega arith
-
 -- every item has bytes
 pub bytes_some : (prefix : List ℕ) (item : Item) → 0 < length (item_bytes prefix item)
-unfolding item_bytes spelling
-bytes_some prefix (Plain i) = spelled_some i
+unfolding item_bytes
+bytes_some prefix (Plain i) = (spelling_length i).some
 bytes_some prefix _ = omega arith
 
 rise_from_chain : (prefix code : List ℕ) (items : List Placed) (low from to : ℕ) → low ≤ from → IsChain prefix code items from to → RiseFrom low items (length code)

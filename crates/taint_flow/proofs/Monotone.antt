@@ -8,7 +8,8 @@ use Rattle.x64_decode.specs.declared.instr.Instr.{Instr}
 use Rattle.x64_decode.specs.declared.instr.Instr.TheVariants.{Mov, Alu, Test, Imul, Neg, Idiv, Cqo, ShiftImm, ShiftCl, Movsxd, Movzx8, Movsx8, Setcc, Cmov, MovImm32, MovImm64, MovImmS, AluImm, Load, LoadZx8, LoadSx8, LoadSx32}
 use Rattle.code_sweep.specs.declared.item.Item.{Item}
 use Rattle.code_sweep.specs.declared.item.Item.TheVariants.{Plain}
-use Rattle.taint_flow.specs.Label.{Label, flags, set, set_where, is_written, segment_taint, IsAtMost, left_by}
+use Rattle.x64_decode.specs.Operations.{is_written}
+use Rattle.taint_flow.specs.Label.{Label, flags, set, set_where, segment_taint, IsAtMost, left_by}
 use Rattle.taint_flow.specs.Flow.{left_behind}
 
 cond_up : (t a b x y : Bool) → (a ≡ true → b ≡ true) → (x ≡ true → y ≡ true) → cond t a x ≡ true → cond t b y ≡ true

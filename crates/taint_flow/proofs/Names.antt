@@ -14,7 +14,8 @@ use Rattle.x64_decode.specs.declared.instr.Instr.TheVariants.{Mov, Alu, Test, Im
 use Rattle.code_sweep.specs.declared.item.Item.{Item}
 use Rattle.code_sweep.specs.declared.item.Item.TheVariants.{Call, Ret, Plain}
 use Rattle.code_sweep.specs.declared.item.Placed.{Placed}
-use Rattle.taint_flow.specs.Label.{Label, flags, set, set_reg, set_where, is_written, IsAtMost, left_by, entry_label, return_label}
+use Rattle.x64_decode.specs.Operations.{is_written}
+use Rattle.taint_flow.specs.Label.{Label, flags, set, set_reg, set_where, IsAtMost, left_by, entry_label, return_label}
 use Rattle.taint_flow.specs.Flow.{MeetsFlow, left_behind, said_behind}
 use Rattle.taint_flow.specs.Bits.{label_of}
 use Rattle.taint_flow.specs.Worklist.{all_private, private_names, word_label}

@@ -1,5 +1,5 @@
 -- The table of the items' numbers by blocks of the code.
-use Rattle.std.proofs.Common.{subst, ◌≡◌, ℕ, zero, suc, ◌+◌, ◌/◌, ◌<◌, ◌≤◌, ◌≢◌, min, List, [], ◌∷◌, length, set, get_or, refl, sym, ◌∙◌, ap, arith, Some, None, inl, inr, ◌⊎◌}
+use Rattle.std.proofs.Common.{subst, ◌≡◌, ℕ, zero, suc, ◌+◌, ◌/◌, ◌^◌, ◌<◌, ◌≤◌, ◌≢◌, min, List, [], ◌∷◌, length, set, get_or, refl, sym, ◌∙◌, ap, arith, Some, None, inl, inr, ◌⊎◌}
 use Rattle.std.specs.Prelude.{slice_index, ◌==◌}
 use Rattle.std.specs.List.{slice_get}
 use Rattle.std.proofs.lemmas.Option.{same_Some, none-some, slice_get_within, slice_get-get_or, slice_get_cases}
@@ -86,7 +86,7 @@ pub block_inside : (items : List Placed) (code : List ℕ) (i : ℕ) (p : Placed
     p.at / 8 < length code / 8 + 1
 block_inside items code i p order here = let inside : p.at < length code = order.inside i p here in omega (arith, inside)
 
-pub finds_items : (items : List Placed) (code firsts : List ℕ) (count : ℕ) → StandInOrder items code → length code ≤ 4194304 →
+pub finds_items : (items : List Placed) (code firsts : List ℕ) (count : ℕ) → StandInOrder items code → length code < 2 ^ 32 →
     length firsts ≡ length code / 8 + 1 → length items ≤ count → FindsFirst items count firsts → FindsItems items firsts
 finds_items items code firsts count order limit len all found = record {
   rising = order.rising;

@@ -3,7 +3,7 @@ use Rattle.std.specs.Prelude.{◌≡◌, ℕ, suc, ◌+◌, Bool, true, false, �
 use Rattle.cv_word.specs.MemoryMap.{code_base}
 use Rattle.cv_word.specs.Arithmetic.{added}
 use Rattle.cv_word.specs.Words.{widened}
-use Rattle.std.specs.Int.{bit_at}
+use Rattle.cv_word.specs.CallBits.{may_pass_private}
 use Rattle.x64_decode.specs.declared.instr.Reg.TheVariants.{Rax, Rcx, Rdx, Rsp, Rsi, Rdi}
 use Rattle.x64_decode.specs.declared.instr.Seg.{Seg}
 use Rattle.x64_decode.specs.declared.instr.Seg.TheVariants.{Fs, Gs}
@@ -137,8 +137,8 @@ leaves_rsp_private _ l = false
 abbrev pub passes_private : Option ℕ → Label → Bool
 passes_private None l = false
 passes_private (Some bits) l =
-    (taint l Rdi && not (bit_at bits 0 == 1)) || (taint l Rsi && not (bit_at bits 1 == 1))
-    || (taint l Rdx && not (bit_at bits 2 == 1)) || (taint l Rcx && not (bit_at bits 3 == 1))
+    (taint l Rdi && not (may_pass_private bits 0)) || (taint l Rsi && not (may_pass_private bits 1))
+    || (taint l Rdx && not (may_pass_private bits 2)) || (taint l Rcx && not (may_pass_private bits 3))
 
 -- a return with a public result, where rax may be private
 abbrev pub returns_private : Item → Label → Bool

@@ -1,13 +1,12 @@
 -- Labels, and what each instruction leaves private: the last column of the instruction table.
 use Rattle.std.specs.Prelude.{◌≡◌, ℕ, Bool, true, false, ◌||◌, ◌&&◌, not, ◌==◌, nat_le, if◌then◌else◌}
-use Rattle.std.specs.Int.{bit_at}
+use Rattle.cv_word.specs.CallBits.{may_pass_private}
 use Rattle.x64_decode.specs.Spelling.{number}
 use Rattle.x64_decode.specs.declared.instr.Reg.{Reg}
 use Rattle.x64_decode.specs.declared.instr.Reg.TheVariants.{Rax, Rcx, Rdx, Rsp, Rsi, Rdi}
 use Rattle.x64_decode.specs.declared.instr.Seg.{Seg}
 use Rattle.x64_decode.specs.declared.instr.Seg.TheVariants.{Fs, Gs}
-use Rattle.x64_decode.specs.declared.instr.AluOp.{AluOp}
-use Rattle.x64_decode.specs.declared.instr.AluOp.TheVariants as alu
+use Rattle.x64_decode.specs.Operations.{is_written}
 use Rattle.x64_decode.specs.declared.instr.Instr.{Instr}
 use Rattle.x64_decode.specs.declared.instr.Instr.TheVariants.{Mov, Alu, Test, Imul, Not, Neg, Idiv, Cqo, ShiftImm, ShiftCl, Movsxd, Movzx8, Movsx8, Setcc, Cmov, MovImm32, MovImm64, MovImmS, AluImm, Load, LoadZx8, LoadSx8, LoadSx32, Store, CmpFlat, JmpR10, CallR10, Call, Jmp, Jcc, Ud2, Nop}
 
@@ -36,11 +35,6 @@ set_where false r private l = l
 -- what is private in the one may be private in the other
 abbrev pub IsAtMost : Label → Label → Type 0
 IsAtMost l m = (k : ℕ) → l k ≡ true → m k ≡ true
-
--- whether an operation writes its target
-abbrev pub is_written : AluOp → Bool
-is_written alu.Cmp = false
-is_written _ = true
 
 -- what a load brings
 abbrev pub segment_taint : Seg → Bool
@@ -87,10 +81,10 @@ left_by Nop l = l
 -- arguments nor rsp.
 unfoldable pub entry_label : ℕ → Label
 entry_label bits = λ k.
-    if k == number Rdi then bit_at bits 0 == 1 else
-    if k == number Rsi then bit_at bits 1 == 1 else
-    if k == number Rdx then bit_at bits 2 == 1 else
-    if k == number Rcx then bit_at bits 3 == 1 else
+    if k == number Rdi then may_pass_private bits 0 else
+    if k == number Rsi then may_pass_private bits 1 else
+    if k == number Rdx then may_pass_private bits 2 else
+    if k == number Rcx then may_pass_private bits 3 else
     nat_le k flags && not (k == number Rsp)
 
 -- What may be private at least behind a return word: the flags and all registers but rsp, and rax only where the bit says so.

@@ -50,8 +50,8 @@ impl Labels {
     }
 }
 
-/// The least labels that meet the flow rules. The listing's items stand in order in its code of at most 4,194,304 bytes,
-/// and one stands behind each word and each item that leads to the next. A jump whose target is no item leads nowhere.
+/// The least labels that meet the flow rules. The listing's items stand in order in its code of fewer than
+/// 2^32 bytes, and one stands behind each word and each item that leads to the next. A jump whose target is no item leads nowhere.
 /// An item that nothing leads to has nothing private before it, and still hands on what it leaves. A step is one use of an
 /// item's row, and there are at most 18 for each item. The one error is want of memory; all room is taken before the first
 /// step, so none is counted then.
@@ -61,7 +61,7 @@ pub fn label_code<L: Ledger>(
     steps: &mut Steps<L>,
 ) -> Result<Labels, NoMemory>
     requires order { StandInOrder listing.now.items.items listing.now.code.now }
-    requires limit { length listing.now.code.now ≤ 4194304 }
+    requires limit { length listing.now.code.now < 2 ^ 32 }
     requires next { NextStands listing.now.items.items }
     ensures len { IfOk result (λ labels. length labels ≡ length listing.now.items.items) }
     ensures meets { IfOk result (λ labels. MeetsFlow listing.now.items.items (labelling_of labels)) }

@@ -3,11 +3,13 @@
 ghost use Rattle.std.specs.Prelude.{◌≡◌, ◌<◌, ◌||◌, true};
 ghost use Rattle.x64_decode.specs.Spelling.{number};
 ghost use Rattle.x64_decode.specs.declared.instr.Reg.TheVariants.{Rax, Rdx};
-ghost use Rattle.taint_flow.specs.Label.{set, set_reg, set_where, taint, flags, is_written, segment_taint, left_by, entry_label, return_label};
+ghost use Rattle.taint_flow.specs.Label.{set, set_reg, set_where, taint, flags, segment_taint, left_by, entry_label, return_label};
+ghost use Rattle.x64_decode.specs.Operations.{is_written};
 ghost use Rattle.taint_flow.specs.Bits.{label_of};
 ghost use Rattle.taint_flow.specs.Flow.{memory_of, base_is_private, shows_private, has_private_address, stores_private, branches_on_private, divides_private, leaves_rsp_private, passes_private, returns_private};
 
 use code_sweep::Item;
+use cv_word::may_pass_private;
 use x64_decode::{AluOp, Instr, Mem, Reg, Seg};
 
 /// What may be private: bit k stands for register k, for k from 0 to 15, and bit 16 for the flags.
@@ -172,14 +174,11 @@ fn brings_private(seg: Seg) -> bool
 pub fn entry_label(bits: u8) -> Label
     ensures { label_of result.bits ≡ entry_label bits }
 {
-    let arguments = Label {
-        bits: u32::from(bits),
-    };
     Label { bits: 0x1_ffef }
-        .set_reg(Reg::Rcx, arguments.has(3))
-        .set_reg(Reg::Rdx, arguments.has(2))
-        .set_reg(Reg::Rsi, arguments.has(1))
-        .set_reg(Reg::Rdi, arguments.has(0))
+        .set_reg(Reg::Rcx, may_pass_private(bits, 3))
+        .set_reg(Reg::Rdx, may_pass_private(bits, 2))
+        .set_reg(Reg::Rsi, may_pass_private(bits, 1))
+        .set_reg(Reg::Rdi, may_pass_private(bits, 0))
 }
 
 /// What may be private at least behind a return word: the flags and all registers but rsp, and rax only
@@ -277,13 +276,10 @@ pub fn passes_private(called: Option<u8>, l: Label) -> bool
     let Some(bits) = called else {
         return false;
     };
-    let may = Label {
-        bits: u32::from(bits),
-    };
-    (l.taint(Reg::Rdi) && !may.has(0))
-        || (l.taint(Reg::Rsi) && !may.has(1))
-        || (l.taint(Reg::Rdx) && !may.has(2))
-        || (l.taint(Reg::Rcx) && !may.has(3))
+    (l.taint(Reg::Rdi) && !may_pass_private(bits, 0))
+        || (l.taint(Reg::Rsi) && !may_pass_private(bits, 1))
+        || (l.taint(Reg::Rdx) && !may_pass_private(bits, 2))
+        || (l.taint(Reg::Rcx) && !may_pass_private(bits, 3))
 }
 
 /// Whether it returns with a public result where rax may be private.

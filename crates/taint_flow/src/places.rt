@@ -69,7 +69,7 @@ pub fn item_numbers<'a>(
     listing: &'a Listing<'_>,
 ) -> Result<ItemNumbers<'a>, NoMemory>
     requires order { StandInOrder listing.now.items.items listing.now.code.now }
-    requires limit { length listing.now.code.now ≤ 4194304 }
+    requires limit { length listing.now.code.now < 2 ^ 32 }
     ensures { IfOk result (λ table. NumbersItems listing.now.items.items (number_at table)) }
 {
     let items = listing.items.as_slice();
@@ -80,7 +80,7 @@ pub fn item_numbers<'a>(
 /// For each block of a code the number of the first item that begins there, or a larger number than any.
 fn first_numbers(alloc: Global, items: &[Placed], code: &[u8]) -> Result<Vec<u32>, NoMemory>
     requires order { StandInOrder items.now code.now }
-    requires limit { length code.now ≤ 4194304 }
+    requires limit { length code.now < 2 ^ 32 }
     ensures { IfOk result (λ firsts. FindsItems items.now firsts.items) }
 {
     let mut firsts = vec![in alloc; u32::MAX; code.len() / BLOCK + 1]?;

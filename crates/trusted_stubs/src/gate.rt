@@ -12,7 +12,7 @@ use crate::work::{
     read_public, write_private, write_public,
 };
 use crate::world::World;
-use cv_word::{Arguments, CODE_BASE, FaultKind, Gate, Registers};
+use cv_word::{Arguments, CODE_BASE, FaultKind, Gate, Registers, result_bit};
 use magic_words::return_word;
 use two_segments::Segments;
 use x64_decode::{Seg, Width};
@@ -68,7 +68,7 @@ fn waiting_place(
     let Some(at) = segs.read(Seg::Fs, top, Width::B4) else {
         return Err(FaultKind::Memory);
     };
-    if stands(segs, return_word(gate.bits() / 16, world.prefix()), at) {
+    if stands(segs, return_word(result_bit(gate.bits()), world.prefix()), at) {
         Ok(at)
     } else {
         Err(FaultKind::GateReturn)

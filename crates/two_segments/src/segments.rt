@@ -17,7 +17,7 @@ use x64_decode::{Seg, Width};
 /// The first mapped offset of a segment.
 const FIRST: usize = 4096;
 
-/// The code and both segments, which have one size of 4,096 to 67,108,864 bytes.
+/// The code and both segments, which have one size, at least 4,096 bytes.
 #[derive(Drop)]
 pub struct Segments<'a> {
     size: usize,
@@ -48,7 +48,6 @@ impl<'a> Segments<'a> {
         public: &[u8],
         private: &[u8],
     ) -> Result<Segments<'a>, NoMemory>
-        requires size { seg_size ≤ 67108864 }
         requires public { 4096 + length public.now ≤ seg_size }
         requires private { 4096 + length private.now ≤ seg_size }
         requires code { length code.now ≤ 4194304 }
@@ -67,7 +66,6 @@ impl<'a> Segments<'a> {
     pub fn size(&self) -> u32
         ensures value { result ≡ self.now.size }
         ensures least { 4096 ≤ result }
-        ensures most { result ≤ 67108864 }
     {
         self.size as u32
     }

@@ -8,6 +8,7 @@ use Rattle.cv_word.specs.declared.registers.Flags.{Flags}
 use Rattle.cv_word.specs.declared.registers.Registers.{Registers}
 use Rattle.x64_decode.specs.Spelling.{number, spelling}
 use Rattle.x64_decode.specs.Reading.{instruction_at}
+pub use Rattle.x64_decode.specs.Operations.{is_written}
 use Rattle.x64_decode.specs.declared.instr.Reg.{Reg}
 use Rattle.x64_decode.specs.declared.instr.Reg.TheVariants as reg
 use Rattle.x64_decode.specs.declared.instr.Cond.{Cond}
@@ -64,7 +65,7 @@ holds cond.Ge f = if f.sf then f.of else not f.of
 holds cond.Le f = f.zf || (if f.sf then not f.of else f.of)
 holds cond.G f = not f.zf && (if f.sf then f.of else not f.of)
 
--- an operation on two words: its result, whether that is written, and its flags
+-- an operation on two words: its result and its flags
 unfoldable pub alu_result : AluOp → ℕ → ℕ → ℕ
 alu_result alu.Add a b = added a b
 alu_result alu.Or a b = bit_or a b
@@ -72,10 +73,6 @@ alu_result alu.And a b = bit_and a b
 alu_result alu.Sub a b = subtracted a b
 alu_result alu.Xor a b = bit_xor a b
 alu_result alu.Cmp a b = subtracted a b
-
-abbrev pub is_written : AluOp → Bool
-is_written alu.Cmp = false
-is_written _ = true
 
 unfoldable pub alu_flags : AluOp → ℕ → ℕ → Flags
 alu_flags alu.Add a b = flags_added a b
