@@ -5,6 +5,9 @@ pub use Rattle.cv_word.specs.Heap
 pub use Rattle.cv_word.specs.Memory
 pub use Rattle.cv_word.specs.GateStep
 pub use Rattle.two_segments.specs.Access
+pub use Rattle.cv_io.specs.Counts
+pub use Rattle.cv_io.specs.Releasers
 pub mod Outputs
 pub mod Worlds
 pub mod Answers
+pub mod Events
