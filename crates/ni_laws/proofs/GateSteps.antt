@@ -25,10 +25,10 @@ use Rattle.x64_decode.specs.declared.instr.Reg.{Reg}
 use Rattle.x64_decode.specs.declared.instr.Reg.TheVariants as reg
 use Rattle.code_sweep.specs.declared.item.Placed.{Placed}
 use Rattle.taint_flow.specs.Label.{Label, taint, entry_label, return_label}
-use Rattle.taint_flow.specs.Flow.{Labelling, address_after, said_behind}
+use Rattle.taint_flow.specs.Flow.{address_after, said_behind}
 use Rattle.conf_verify.specs.Rules.{is_word}
 use Rattle.x64_alu.specs.CoreStep.{value, put}
-use Rattle.ni_laws.specs.Agreement.{Equal, Standing, at_item, memory, Common, Apart, memory_of, world_of, releasers_of, IsCommon}
+use Rattle.ni_laws.specs.Agreement.{LabelledCode, Equal, Standing, at_item, memory, Common, Apart, memory_of, world_of, releasers_of, IsCommon}
 use Rattle.ni_laws.proofs.Bytes.{spliced_are, take_bytes, drop_bytes}
 use Rattle.ni_laws.proofs.Items.{Facts, return_at, word_length}
 use Rattle.ni_laws.proofs.Registers.{sixteen_put, value_same, value_other}
@@ -81,24 +81,24 @@ back bit l s t n m next small same e =
 abbrev returns : ℕ → List ℕ → Registers → Common → Apart → GateEffect
 returns size code s common apart = goes s (memory_of size code common apart) (world_of common apart) (releasers_of common apart)
 
-pub data GatesAlike (prefix code : List ℕ) (items : List Placed) (labels : Labelling) (size : ℕ) : GateEffect → GateEffect → Type 0 where
-  both_return : (s t : Registers) (common : Common) (mine yours : Apart) → s.pc ≡ t.pc → Standing prefix code items labels s t → IsCommon prefix common →
+pub data GatesAlike (code : LabelledCode) (size : ℕ) : GateEffect → GateEffect → Type 0 where
+  both_return : (s t : Registers) (common : Common) (mine yours : Apart) → s.pc ≡ t.pc → Standing code s t → IsCommon code common →
       length mine.output ≡ length yours.output →
-      GatesAlike prefix code items labels size
-      (goes s (memory size code common.public mine.segment) (world_of common mine) (releasers_of common mine))
-      (goes t (memory size code common.public yours.segment) (world_of common yours) (releasers_of common yours))
-  both_stop : (ending : Ending) → GatesAlike prefix code items labels size (stops ending) (stops ending)
-  both_refuse : (kind : FaultKind) → GatesAlike prefix code items labels size (faults kind) (faults kind)
+      GatesAlike code size
+      (goes s (memory size code.bytes common.public mine.segment) (world_of common mine) (releasers_of common mine))
+      (goes t (memory size code.bytes common.public yours.segment) (world_of common yours) (releasers_of common yours))
+  both_stop : (ending : Ending) → GatesAlike code size (stops ending) (stops ending)
+  both_refuse : (kind : FaultKind) → GatesAlike code size (faults kind) (faults kind)
 
 -- ---- a gate's work, where two cores wait at one word
 
 -- what is so where two cores have entered a gate, and the word at which they wait was found
-record Entered (prefix code : List ℕ) (items : List Placed) (labels : Labelling) (g : Gate) (next : ℕ) (common : Common) (mine yours : Apart) (s t : Registers) : Type 0 where
+record Entered (code : LabelledCode) (g : Gate) (next : ℕ) (common : Common) (mine yours : Apart) (s t : Registers) : Type 0 where
   place : ℕ
   here : next ≡ code_base + place + 8
-  stands : take 8 (drop place code) ≡ return_word (result_bit g) prefix
+  stands : take 8 (drop place code.bytes) ≡ return_word (result_bit g) code.prefix
   equal : Equal (entry_label (bits_of g)) s t
-  is_common : IsCommon prefix common
+  is_common : IsCommon code common
   outputs : length mine.output ≡ length yours.output
 
 bit_small : (g : Gate) → result_bit g < 2
@@ -209,22 +209,22 @@ unfolding advanced
 advanced_bytes count tapes d class are =
     chosen_bytes (class == d) (advanced count (tapes d)) (tapes class) (drop_bytes count (tapes d).left.bytes (are d)) (are class)
 
-module _ (prefix code : List ℕ) (items : List Placed) (labels : Labelling) (facts : Facts prefix code items labels) (size : ℕ) where
+module _ (code : LabelledCode) (facts : Facts code) (size : ℕ) where
   -- both go on behind the word, with new parts
-  on_behind : (g : Gate) (next : ℕ) (common : Common) (mine yours : Apart) (s t : Registers) → Entered prefix code items labels g next common mine yours s t →
-      (n m : ℕ) → (result_bit g ≡ 0 → n ≡ m) → (later : Common) (mine' yours' : Apart) → IsCommon prefix later → length mine'.output ≡ length yours'.output →
-      GatesAlike prefix code items labels size (returns size code (returned n next s) later mine') (returns size code (returned m next t) later yours')
+  on_behind : (g : Gate) (next : ℕ) (common : Common) (mine yours : Apart) (s t : Registers) → Entered code g next common mine yours s t →
+      (n m : ℕ) → (result_bit g ≡ 0 → n ≡ m) → (later : Common) (mine' yours' : Apart) → IsCommon code later → length mine'.output ≡ length yours'.output →
+      GatesAlike code size (returns size code.bytes (returned n next s) later mine') (returns size code.bytes (returned m next t) later yours')
   on_behind g next common mine yours s t e n m same later mine' yours' is outputs =
-      let found = return_at prefix code items labels facts e.place (result_bit g) e.stands in
+      let found = return_at code facts e.place (result_bit g) e.stands in
       let word : is_word found.q.item ≡ true = ap is_word found.is in
-      let long = word_length prefix code items labels facts found.j found.q found.stands word in
+      let long = word_length code facts found.j found.q found.stands word in
       both_return (returned n next s) (returned m next t) later mine' yours' refl
-      (at_item (landed_word prefix code items labels facts found.j found.q (return_label (result_bit g)) _ _ found.stands word (ap said_behind found.is)
+      (at_item (landed_word code facts found.j found.q (return_label (result_bit g)) _ _ found.stands word (ap said_behind found.is)
       (behind e.place next found.q e.here found.at long) (back (result_bit g) (entry_label (bits_of g)) s t n m next (bit_small g) same e.equal))) is outputs
 
   -- what two runs have in common stays what it is where only what may be seen changes, and the prefix and the input stay
-  seen_common : (common : Common) (v : Visible) → IsCommon prefix common → v.prefix ≡ common.visible.prefix → v.public_input ≡ common.visible.public_input →
-      IsCommon prefix (record common { visible = v })
+  seen_common : (common : Common) (v : Visible) → IsCommon code common → v.prefix ≡ common.visible.prefix → v.public_input ≡ common.visible.public_input →
+      IsCommon code (record common { visible = v })
   seen_common common v is p i = record {
     public = is.public;
     prefix_is = p ∙ is.prefix_is;
@@ -235,12 +235,12 @@ module _ (prefix code : List ℕ) (items : List Placed) (labels : Labelling) (fa
   -- ---- the work of each gate, with equal public arguments
 
   abbrev Works : Gate → ℕ → Common → Apart → Apart → Registers → Registers → Arguments → Arguments → Type 0
-  Works g next common mine yours s t a b = GatesAlike prefix code items labels size
-      (after_work (work g a (read_from (memory_of size code common mine) (reads g a)) (world_of common mine) (releasers_of common mine)) next (writes g a) s (memory_of size code common mine))
-      (after_work (work g b (read_from (memory_of size code common yours) (reads g b)) (world_of common yours) (releasers_of common yours)) next (writes g b) t (memory_of size code common yours))
+  Works g next common mine yours s t a b = GatesAlike code size
+      (after_work (work g a (read_from (memory_of size code.bytes common mine) (reads g a)) (world_of common mine) (releasers_of common mine)) next (writes g a) s (memory_of size code.bytes common mine))
+      (after_work (work g b (read_from (memory_of size code.bytes common yours) (reads g b)) (world_of common yours) (releasers_of common yours)) next (writes g b) t (memory_of size code.bytes common yours))
 
   -- PubIn
-  reads_public : (next : ℕ) (common : Common) (mine yours : Apart) (s t : Registers) → Entered prefix code items labels gate.PubIn next common mine yours s t →
+  reads_public : (next : ℕ) (common : Common) (mine yours : Apart) (s t : Registers) → Entered code gate.PubIn next common mine yours s t →
       (a b c d x y : ℕ) → Works gate.PubIn next common mine yours s t (args a b c d) (args a b x y)
   unfolding work
   reads_public next common mine yours s t e a b c d x y =
@@ -257,7 +257,7 @@ module _ (prefix code : List ℕ) (items : List Placed) (labels : Labelling) (fa
       }) e.outputs
 
   -- PubOut
-  writes_public : (next : ℕ) (common : Common) (mine yours : Apart) (s t : Registers) → Entered prefix code items labels gate.PubOut next common mine yours s t →
+  writes_public : (next : ℕ) (common : Common) (mine yours : Apart) (s t : Registers) → Entered code gate.PubOut next common mine yours s t →
       (a b c d x y : ℕ) → Works gate.PubOut next common mine yours s t (args a b c d) (args a b x y)
   unfolding work
   writes_public next common mine yours s t e a b c d x y =
@@ -266,7 +266,7 @@ module _ (prefix code : List ℕ) (items : List Placed) (labels : Labelling) (fa
       (seen_common common v e.is_common refl refl) e.outputs
 
   -- PrivIn
-  reads_private : (next : ℕ) (common : Common) (mine yours : Apart) (s t : Registers) → Entered prefix code items labels gate.PrivIn next common mine yours s t →
+  reads_private : (next : ℕ) (common : Common) (mine yours : Apart) (s t : Registers) → Entered code gate.PrivIn next common mine yours s t →
       (a b c d x y : ℕ) → Works gate.PrivIn next common mine yours s t (args a b c d) (args a b x y)
   unfolding work
   reads_private next common mine yours s t e a b c d x y =
@@ -277,7 +277,7 @@ module _ (prefix code : List ℕ) (items : List Placed) (labels : Labelling) (fa
       (seen_common common v e.is_common refl refl) e.outputs
 
   -- PrivOut
-  writes_private : (next : ℕ) (common : Common) (mine yours : Apart) (s t : Registers) → Entered prefix code items labels gate.PrivOut next common mine yours s t →
+  writes_private : (next : ℕ) (common : Common) (mine yours : Apart) (s t : Registers) → Entered code gate.PrivOut next common mine yours s t →
       (a b c d x y : ℕ) → Works gate.PrivOut next common mine yours s t (args a b c d) (args a b x y)
   unfolding work
   writes_private next common mine yours s t e a b c d x y =
@@ -288,7 +288,7 @@ module _ (prefix code : List ℕ) (items : List Placed) (labels : Labelling) (fa
       (longer mine.output yours.output xs ys e.outputs (length-items_at mine.segment a b ∙ sym (length-items_at yours.segment a b)))
 
   -- PrivGet
-  gets_private : (next : ℕ) (common : Common) (mine yours : Apart) (s t : Registers) → Entered prefix code items labels gate.PrivGet next common mine yours s t →
+  gets_private : (next : ℕ) (common : Common) (mine yours : Apart) (s t : Registers) → Entered code gate.PrivGet next common mine yours s t →
       (a b : Arguments) → Works gate.PrivGet next common mine yours s t a b
   unfolding work
   gets_private next common mine yours s t e a b =
@@ -297,7 +297,7 @@ module _ (prefix code : List ℕ) (items : List Placed) (labels : Labelling) (fa
       (λ h. absurd (one_is_none 1 refl h)) (record common { visible = v }) mine yours (seen_common common v e.is_common refl refl) e.outputs
 
   -- PrivPut
-  puts_private : (next : ℕ) (common : Common) (mine yours : Apart) (s t : Registers) → Entered prefix code items labels gate.PrivPut next common mine yours s t →
+  puts_private : (next : ℕ) (common : Common) (mine yours : Apart) (s t : Registers) → Entered code gate.PrivPut next common mine yours s t →
       (a b : Arguments) → Works gate.PrivPut next common mine yours s t a b
   unfolding work
   puts_private next common mine yours s t e a b =
@@ -308,7 +308,7 @@ module _ (prefix code : List ℕ) (items : List Placed) (labels : Labelling) (fa
       (longer mine.output yours.output xs ys e.outputs refl)
 
   -- PubAlloc, PrivAlloc, PubFree and PrivFree
-  takes_public : (next : ℕ) (common : Common) (mine yours : Apart) (s t : Registers) → Entered prefix code items labels gate.PubAlloc next common mine yours s t →
+  takes_public : (next : ℕ) (common : Common) (mine yours : Apart) (s t : Registers) → Entered code gate.PubAlloc next common mine yours s t →
       (n b c d x y z : ℕ) → Works gate.PubAlloc next common mine yours s t (args n b c d) (args n x y z)
   unfolding work
   takes_public next common mine yours s t e n b c d x y z =
@@ -316,7 +316,7 @@ module _ (prefix code : List ℕ) (items : List Placed) (labels : Labelling) (fa
       let at : ℕ = unwrap_or (taken_at common.visible.public_heap n) 0 in
       on_behind gate.PubAlloc next common mine yours s t e at at (λ h. refl) (record common { visible = v }) mine yours (seen_common common v e.is_common refl refl) e.outputs
 
-  takes_private : (next : ℕ) (common : Common) (mine yours : Apart) (s t : Registers) → Entered prefix code items labels gate.PrivAlloc next common mine yours s t →
+  takes_private : (next : ℕ) (common : Common) (mine yours : Apart) (s t : Registers) → Entered code gate.PrivAlloc next common mine yours s t →
       (n b c d x y z : ℕ) → Works gate.PrivAlloc next common mine yours s t (args n b c d) (args n x y z)
   unfolding work
   takes_private next common mine yours s t e n b c d x y z =
@@ -324,7 +324,7 @@ module _ (prefix code : List ℕ) (items : List Placed) (labels : Labelling) (fa
       let at : ℕ = unwrap_or (taken_at common.visible.private_heap n) 0 in
       on_behind gate.PrivAlloc next common mine yours s t e at at (λ h. refl) (record common { visible = v }) mine yours (seen_common common v e.is_common refl refl) e.outputs
 
-  gives_public : (next : ℕ) (common : Common) (mine yours : Apart) (s t : Registers) → Entered prefix code items labels gate.PubFree next common mine yours s t →
+  gives_public : (next : ℕ) (common : Common) (mine yours : Apart) (s t : Registers) → Entered code gate.PubFree next common mine yours s t →
       (at b c d x y z : ℕ) → Works gate.PubFree next common mine yours s t (args at b c d) (args at x y z)
   unfolding work
   gives_public next common mine yours s t e at b c d x y z =
@@ -332,7 +332,7 @@ module _ (prefix code : List ℕ) (items : List Placed) (labels : Labelling) (fa
       let answer : ℕ = cond (gives common.visible.public_heap at) 1 0 in
       on_behind gate.PubFree next common mine yours s t e answer answer (λ h. refl) (record common { visible = v }) mine yours (seen_common common v e.is_common refl refl) e.outputs
 
-  gives_private : (next : ℕ) (common : Common) (mine yours : Apart) (s t : Registers) → Entered prefix code items labels gate.PrivFree next common mine yours s t →
+  gives_private : (next : ℕ) (common : Common) (mine yours : Apart) (s t : Registers) → Entered code gate.PrivFree next common mine yours s t →
       (at b c d x y z : ℕ) → Works gate.PrivFree next common mine yours s t (args at b c d) (args at x y z)
   unfolding work
   gives_private next common mine yours s t e at b c d x y z =
@@ -341,7 +341,7 @@ module _ (prefix code : List ℕ) (items : List Placed) (labels : Labelling) (fa
       on_behind gate.PrivFree next common mine yours s t e answer answer (λ h. refl) (record common { visible = v }) mine yours (seen_common common v e.is_common refl refl) e.outputs
 
   -- Release
-  released : (next : ℕ) (common : Common) (mine yours : Apart) (s t : Registers) → Entered prefix code items labels gate.Release next common mine yours s t →
+  released : (next : ℕ) (common : Common) (mine yours : Apart) (s t : Registers) → Entered code gate.Release next common mine yours s t →
       (a b c d : ℕ) (short : Bool) → is_short c (common.tapes d).left ≡ short → Works gate.Release next common mine yours s t (args a b c d) (args a b c d)
   unfolding work
   released next common mine yours s t e a b c d short is =
@@ -354,9 +354,9 @@ module _ (prefix code : List ℕ) (items : List Placed) (labels : Labelling) (fa
       } in
       let mine' : Apart = record mine { asked = with_class d (mine.asked d ++ items_at mine.segment a c) mine.asked } in
       let yours' : Apart = record yours { asked = with_class d (yours.asked d ++ items_at yours.segment a c) yours.asked } in
-      let P : Bool → Type 0 = λ x. GatesAlike prefix code items labels size
-      (after_work (cond x (ends (runs_out d)) (answers c told (world_of later mine) (releasers_of later mine'))) next (writes gate.Release (args a b c d)) s (memory_of size code common mine))
-      (after_work (cond x (ends (runs_out d)) (answers c told (world_of later yours) (releasers_of later yours'))) next (writes gate.Release (args a b c d)) t (memory_of size code common yours)) in
+      let P : Bool → Type 0 = λ x. GatesAlike code size
+      (after_work (cond x (ends (runs_out d)) (answers c told (world_of later mine) (releasers_of later mine'))) next (writes gate.Release (args a b c d)) s (memory_of size code.bytes common mine))
+      (after_work (cond x (ends (runs_out d)) (answers c told (world_of later yours) (releasers_of later yours'))) next (writes gate.Release (args a b c d)) t (memory_of size code.bytes common yours)) in
       subst P (sym is)
       (shorts P short (both_stop (runs_out d))
       (on_behind gate.Release next common mine yours s t e c c (λ h. refl) later mine' yours'
@@ -368,7 +368,7 @@ module _ (prefix code : List ℕ) (items : List Placed) (labels : Labelling) (fa
       }) e.outputs))
 
   -- the gate's work, with the arguments of the two cores
-  works : (g : Gate) (next : ℕ) (common : Common) (mine yours : Apart) (s t : Registers) → Entered prefix code items labels g next common mine yours s t →
+  works : (g : Gate) (next : ℕ) (common : Common) (mine yours : Apart) (s t : Registers) → Entered code g next common mine yours s t →
       Works g next common mine yours s t (arguments_of s) (arguments_of t)
   unfolding work
   works gate.Exit next common mine yours s t e =
@@ -408,37 +408,37 @@ module _ (prefix code : List ℕ) (items : List Placed) (labels : Labelling) (fa
 
   -- ---- the gate step
 
-  after_refusals : (g : Gate) (next : ℕ) (common : Common) (mine yours : Apart) (s t : Registers) → Entered prefix code items labels g next common mine yours s t → (o : Option FaultKind) →
-      GatesAlike prefix code items labels size
-      (unless_refused o g next s (memory_of size code common mine) (world_of common mine) (releasers_of common mine))
-      (unless_refused o g next t (memory_of size code common yours) (world_of common yours) (releasers_of common yours))
+  after_refusals : (g : Gate) (next : ℕ) (common : Common) (mine yours : Apart) (s t : Registers) → Entered code g next common mine yours s t → (o : Option FaultKind) →
+      GatesAlike code size
+      (unless_refused o g next s (memory_of size code.bytes common mine) (world_of common mine) (releasers_of common mine))
+      (unless_refused o g next t (memory_of size code.bytes common yours) (world_of common yours) (releasers_of common yours))
   after_refusals g next common mine yours s t e (Some kind) = both_refuse kind
   after_refusals g next common mine yours s t e None = works g next common mine yours s t e
 
-  not_found : (test : Bool) (x y : GateEffect) → (test ≡ true → GatesAlike prefix code items labels size x y) → (kind : FaultKind) →
-      GatesAlike prefix code items labels size (cond test x (faults kind)) (cond test y (faults kind))
+  not_found : (test : Bool) (x y : GateEffect) → (test ≡ true → GatesAlike code size x y) → (kind : FaultKind) →
+      GatesAlike code size (cond test x (faults kind)) (cond test y (faults kind))
   not_found true x y both kind = both refl
   not_found false x y both kind = both_refuse kind
 
   -- the word that was found stands in the code
-  word_found : (at : ℕ) (word : List ℕ) (m : List ℕ) (private : List ℕ) → stands_in_code (memory size code m private) word at ≡ true →
-      (place : ℕ) × (at ≡ code_base + place) × (take 8 (drop place code) ≡ word)
+  word_found : (at : ℕ) (word : List ℕ) (m : List ℕ) (private : List ℕ) → stands_in_code (memory size code.bytes m private) word at ≡ true →
+      (place : ℕ) × (at ≡ code_base + place) × (take 8 (drop place code.bytes) ≡ word)
   unfolding stands_in_code
   word_found at word m private e =
-      let outer = and_parts (nat_le code_base at && nat_le (at + 8) (code_base + length code)) (bytes_eq (take 8 (drop (at - code_base) code)) word) e in
-      let low : code_base ≤ at = leb-true code_base at (and_parts (nat_le code_base at) (nat_le (at + 8) (code_base + length code)) outer.0).0 in
+      let outer = and_parts (nat_le code_base at && nat_le (at + 8) (code_base + length code.bytes)) (bytes_eq (take 8 (drop (at - code_base) code.bytes)) word) e in
+      let low : code_base ≤ at = leb-true code_base at (and_parts (nat_le code_base at) (nat_le (at + 8) (code_base + length code.bytes)) outer.0).0 in
       (at - code_base, omega arith, same_bytes_are _ word outer.1)
 
-  waited : (g : Gate) (at : ℕ) (common : Common) (mine yours : Apart) (s t : Registers) → Equal (entry_label (bits_of g)) s t → IsCommon prefix common → length mine.output ≡ length yours.output →
-      GatesAlike prefix code items labels size
-      (from_waiting at g s (memory_of size code common mine) (world_of common mine) (releasers_of common mine))
-      (from_waiting at g t (memory_of size code common yours) (world_of common yours) (releasers_of common yours))
+  waited : (g : Gate) (at : ℕ) (common : Common) (mine yours : Apart) (s t : Registers) → Equal (entry_label (bits_of g)) s t → IsCommon code common → length mine.output ≡ length yours.output →
+      GatesAlike code size
+      (from_waiting at g s (memory_of size code.bytes common mine) (world_of common mine) (releasers_of common mine))
+      (from_waiting at g t (memory_of size code.bytes common yours) (world_of common yours) (releasers_of common yours))
   unfolding stands_in_code
   waited g at common mine yours s t equal is outputs =
-      not_found (stands_in_code (memory_of size code common mine) (return_word (result_bit g) common.visible.prefix) at) _ _
+      not_found (stands_in_code (memory_of size code.bytes common mine) (return_word (result_bit g) common.visible.prefix) at) _ _
       (λ found.
       let w = word_found at (return_word (result_bit g) common.visible.prefix) common.public mine.segment found in
-      let e : Entered prefix code items labels g (at + 8) common mine yours s t = record {
+      let e : Entered code g (at + 8) common mine yours s t = record {
         place = w.0;
         here = ap (λ (x : ℕ). x + 8) w.1;
         stands = w.2 ∙ ap (λ (p : List ℕ). return_word (result_bit g) p) is.prefix_is;
@@ -446,23 +446,23 @@ module _ (prefix code : List ℕ) (items : List Placed) (labels : Labelling) (fa
         is_common = is;
         outputs = outputs;
       } in
-      let P : Option FaultKind → Type 0 = λ o. GatesAlike prefix code items labels size
-      (unless_refused (refusal size g (arguments_of s) (world_of common mine) (releasers_of common mine)) g (at + 8) s (memory_of size code common mine) (world_of common mine) (releasers_of common mine))
-      (unless_refused o g (at + 8) t (memory_of size code common yours) (world_of common yours) (releasers_of common yours)) in
+      let P : Option FaultKind → Type 0 = λ o. GatesAlike code size
+      (unless_refused (refusal size g (arguments_of s) (world_of common mine) (releasers_of common mine)) g (at + 8) s (memory_of size code.bytes common mine) (world_of common mine) (releasers_of common mine))
+      (unless_refused o g (at + 8) t (memory_of size code.bytes common yours) (world_of common yours) (releasers_of common yours)) in
       subst P (refusals g size common mine yours s t equal outputs)
       (after_refusals g (at + 8) common mine yours s t e (refusal size g (arguments_of s) (world_of common mine) (releasers_of common mine)))) fault.GateReturn
 
   -- THE LAW OF A GATE STEP
-  pub gates_step : (g : Gate) (common : Common) (mine yours : Apart) (s t : Registers) → Equal (entry_label (bits_of g)) s t → IsCommon prefix common → length mine.output ≡ length yours.output →
-      GatesAlike prefix code items labels size
-      (gate_step g s (memory_of size code common mine) (world_of common mine) (releasers_of common mine))
-      (gate_step g t (memory_of size code common yours) (world_of common yours) (releasers_of common yours))
+  pub gates_step : (g : Gate) (common : Common) (mine yours : Apart) (s t : Registers) → Equal (entry_label (bits_of g)) s t → IsCommon code common → length mine.output ≡ length yours.output →
+      GatesAlike code size
+      (gate_step g s (memory_of size code.bytes common mine) (world_of common mine) (releasers_of common mine))
+      (gate_step g t (memory_of size code.bytes common yours) (world_of common yours) (releasers_of common yours))
   unfolding gate_step
   gates_step g common mine yours s t equal is outputs =
-      let P : ℕ → Type 0 = λ top. GatesAlike prefix code items labels size
-      (gate_step g s (memory_of size code common mine) (world_of common mine) (releasers_of common mine))
+      let P : ℕ → Type 0 = λ top. GatesAlike code size
+      (gate_step g s (memory_of size code.bytes common mine) (world_of common mine) (releasers_of common mine))
       (cond (is_mapped size (top % 2 ^ 32) 4)
-      (from_waiting (little_endian (take 4 (drop (top % 2 ^ 32) common.public))) g t (memory_of size code common yours) (world_of common yours) (releasers_of common yours)) (faults fault.Memory)) in
+      (from_waiting (little_endian (take 4 (drop (top % 2 ^ 32) common.public))) g t (memory_of size code.bytes common yours) (world_of common yours) (releasers_of common yours)) (faults fault.Memory)) in
       subst P equal.stack
       (not_found (is_mapped size (rsp_of s % 2 ^ 32) 4) _ _
       (λ mapped. waited g (little_endian (take 4 (drop (rsp_of s % 2 ^ 32) common.public))) common mine yours s t equal is outputs) fault.Memory)

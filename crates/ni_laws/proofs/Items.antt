@@ -19,22 +19,23 @@ use Rattle.cv_word.specs.declared.gates.Gate.{Gate}
 use Rattle.magic_words.specs.MagicWords.{call_word, return_word, IsOccurrence}
 use Rattle.taint_flow.specs.Calls.{procedure_at, call_target, bits_at, callee, is_call}
 use Rattle.taint_flow.proofs.Callees.{bits_are}
+use Rattle.ni_laws.specs.Agreement.{LabelledCode}
 use Rattle.ni_laws.proofs.Rows.{KeepsRules}
 
 -- what acceptance says of a code, its listing and labels
-pub record Facts (prefix code : List ℕ) (items : List Placed) (labels : Labelling) : Type 0 where
-  pub six : length prefix ≡ 6
-  pub prefix_bytes : AreBytes prefix
-  pub code_bytes : AreBytes code
-  pub limit : length code ≤ 4194304
-  pub listing : IsChain prefix code items 0 (length code)
-  pub ends : (place : ℕ) → BreaksEnds items place → ⊥
-  pub occurs : (place : ℕ) → BreaksPrefix prefix code items place → ⊥
-  pub returns : (place : ℕ) → BreaksReturns items place → ⊥
-  pub jumps : (place : ℕ) → BreaksJumps items place → ⊥
-  pub calls : (place : ℕ) → BreaksCalls items place → ⊥
-  pub meets : MeetsFlow items labels
-  pub flow : (rule : Rule) (place : ℕ) → BreaksUnder rule items labels place → ⊥
+pub record Facts (code : LabelledCode) : Type 0 where
+  pub six : length code.prefix ≡ 6
+  pub prefix_bytes : AreBytes code.prefix
+  pub code_bytes : AreBytes code.bytes
+  pub limit : length code.bytes ≤ 4194304
+  pub listing : IsChain code.prefix code.bytes code.items 0 (length code.bytes)
+  pub ends : (place : ℕ) → BreaksEnds code.items place → ⊥
+  pub occurs : (place : ℕ) → BreaksPrefix code.prefix code.bytes code.items place → ⊥
+  pub returns : (place : ℕ) → BreaksReturns code.items place → ⊥
+  pub jumps : (place : ℕ) → BreaksJumps code.items place → ⊥
+  pub calls : (place : ℕ) → BreaksCalls code.items place → ⊥
+  pub meets : MeetsFlow code.items code.labels
+  pub flow : (rule : Rule) (place : ℕ) → BreaksUnder rule code.items code.labels place → ⊥
 
 -- an item of a chain stands at its place, with its length
 pub chain_item : (prefix code : List ℕ) (items : List Placed) (from to i : ℕ) (p : Placed) → IsChain prefix code items from to → slice_get items i ≡ Some p →
@@ -79,18 +80,18 @@ no_word_of (CallUnit r bits) e none = refl
 before_suc : (items : List Placed) (i h : ℕ) (p q : Placed) → slice_get items i ≡ Some p → slice_get items h ≡ Some q → suc i ≡ suc h → p ≡ q
 before_suc items i h p q e f same = let at : i ≡ h = omega arith in same_Some p q (sym e ∙ ap (λ k. slice_get items k) at ∙ f)
 
-pub next_item : (prefix code : List ℕ) (items : List Placed) (labels : Labelling) → Facts prefix code items labels → (i : ℕ) (p : Placed) → slice_get items i ≡ Some p →
-    may_end p.item ≡ false → is_call p.item ≡ false → Next items i p
-next_item prefix code items labels facts i p stands not_end no_call =
-    let not_last : IsLast items i → ⊥ = λ last. facts.ends p.at (i, p, stands, refl, inr (last, not_end)) in
-    let behind = item_behind items i p stands (λ end. not_last (inl end)) in
+pub next_item : (code : LabelledCode) → Facts code → (i : ℕ) (p : Placed) → slice_get code.items i ≡ Some p →
+    may_end p.item ≡ false → is_call p.item ≡ false → Next code.items i p
+next_item code facts i p stands not_end no_call =
+    let not_last : IsLast code.items i → ⊥ = λ last. facts.ends p.at (i, p, stands, refl, inr (last, not_end)) in
+    let behind = item_behind code.items i p stands (λ end. not_last (inl end)) in
     let q : Placed = behind.0 in
-    let stands' : slice_get items (suc i) ≡ Some q = behind.1 in
+    let stands' : slice_get code.items (suc i) ≡ Some q = behind.1 in
     let no_call_word : is_call_word q.item ≡ false = false_from_ne_true (is_call_word q.item) (λ h. not_last (inr (q, stands', h))) in
-    let follows : FollowsCall items (suc i) → ⊥ = λ f.
-    true≢false (sym (ap (λ (x : Placed). is_call x.item) (before_suc items i f.0 p f.1 stands f.3 f.2) ∙ f.4) ∙ no_call) in
+    let follows : FollowsCall code.items (suc i) → ⊥ = λ f.
+    true≢false (sym (ap (λ (x : Placed). is_call x.item) (before_suc code.items i f.0 p f.1 stands f.3 f.2) ∙ f.4) ∙ no_call) in
     let no_return : (bit : ℕ) → q.item ≡ Ret bit → ⊥ = λ bit is. facts.returns q.at (suc i, q, stands', refl, inr (bit, is, follows)) in
-    let next : q.at ≡ p.at + p.len = chain_next prefix code items 0 (length code) i p q facts.listing stands stands' in
+    let next : q.at ≡ p.at + p.len = chain_next code.prefix code.bytes code.items 0 (length code.bytes) i p q facts.listing stands stands' in
     record { q = q; stands = stands'; no_word = no_word_of q.item no_call_word no_return; here = omega arith }
 
 -- an item that passes a test, or none does
@@ -204,12 +205,12 @@ item_word prefix code place b (ReturnUnit bit) six e s = absurd (true≢false (s
 item_word prefix code place b (CallUnit r bits) six e s = absurd (true≢false (sym e))
 
 -- the word item at a place where a word's bytes stand
-word_at : (prefix code : List ℕ) (items : List Placed) (labels : Labelling) → Facts prefix code items labels → (place b k : ℕ) → take 8 (drop place code) ≡ b ∷ (k ∷ prefix) →
-    (j : ℕ) × (q : Placed) × (slice_get items j ≡ Some q) × (is_word q.item ≡ true) × (q.at ≡ place)
-word_at prefix code items labels facts place b k stands =
-    let e : take (length prefix) (drop (place + 2) code) ≡ prefix =
-    ap (λ l. take (length prefix) l) (sym (drop-drop 2 place code)) ∙ prefix_in (drop place code) b k prefix facts.six stands in
-    let f = word_item prefix code items (place + 2) facts.occurs e in
+word_at : (code : LabelledCode) → Facts code → (place b k : ℕ) → take 8 (drop place code.bytes) ≡ b ∷ (k ∷ code.prefix) →
+    (j : ℕ) × (q : Placed) × (slice_get code.items j ≡ Some q) × (is_word q.item ≡ true) × (q.at ≡ place)
+word_at code facts place b k stands =
+    let e : take (length code.prefix) (drop (place + 2) code.bytes) ≡ code.prefix =
+    ap (λ l. take (length code.prefix) l) (sym (drop-drop 2 place code.bytes)) ∙ prefix_in (drop place code.bytes) b k code.prefix facts.six stands in
+    let f = word_item code.prefix code.bytes code.items (place + 2) facts.occurs e in
     (f.0, f.1, f.2, f.3, let at = f.4 in omega arith)
 
 pub record IsWordItem (items : List Placed) (item : Item) (place : ℕ) : Type 0 where
@@ -219,26 +220,26 @@ pub record IsWordItem (items : List Placed) (item : Item) (place : ℕ) : Type 0
   pub is : q.item ≡ item
   pub at : q.at ≡ place
 
-pub call_at : (prefix code : List ℕ) (items : List Placed) (labels : Labelling) → Facts prefix code items labels → (place bits : ℕ) → take 8 (drop place code) ≡ call_word bits prefix →
-    IsWordItem items (Call bits) place
-call_at prefix code items labels facts place bits stands =
-    let w = word_at prefix code items labels facts place bits 0x11 stands in
-    let s = chain_item prefix code items 0 (length code) w.0 w.1 facts.listing w.2 in
-    let same : take 8 (drop w.1.at code) ≡ bits ∷ (0x11 ∷ prefix) = ap (λ n. take 8 (drop n code)) w.4 ∙ stands in
-    elim (item_word prefix code w.1.at bits w.1.item facts.six w.3 s.0) [
-      | inl c ↦ record { j = w.0; q = w.1; stands = w.2; is = c.1 ∙ ap Call (first_cell c.0 0x11 bits 0x11 prefix prefix (sym c.2 ∙ same)); at = w.4 }
-      | inr r ↦ absurd (kinds_differ 0x11 0x22 refl refl (second_cell bits 0x11 r.0 0x22 prefix prefix (sym same ∙ r.3)))
+pub call_at : (code : LabelledCode) → Facts code → (place bits : ℕ) → take 8 (drop place code.bytes) ≡ call_word bits code.prefix →
+    IsWordItem code.items (Call bits) place
+call_at code facts place bits stands =
+    let w = word_at code facts place bits 0x11 stands in
+    let s = chain_item code.prefix code.bytes code.items 0 (length code.bytes) w.0 w.1 facts.listing w.2 in
+    let same : take 8 (drop w.1.at code.bytes) ≡ bits ∷ (0x11 ∷ code.prefix) = ap (λ n. take 8 (drop n code.bytes)) w.4 ∙ stands in
+    elim (item_word code.prefix code.bytes w.1.at bits w.1.item facts.six w.3 s.0) [
+      | inl c ↦ record { j = w.0; q = w.1; stands = w.2; is = c.1 ∙ ap Call (first_cell c.0 0x11 bits 0x11 code.prefix code.prefix (sym c.2 ∙ same)); at = w.4 }
+      | inr r ↦ absurd (kinds_differ 0x11 0x22 refl refl (second_cell bits 0x11 r.0 0x22 code.prefix code.prefix (sym same ∙ r.3)))
     ]
 
-pub return_at : (prefix code : List ℕ) (items : List Placed) (labels : Labelling) → Facts prefix code items labels → (place bit : ℕ) → take 8 (drop place code) ≡ return_word bit prefix →
-    IsWordItem items (Ret bit) place
-return_at prefix code items labels facts place bit stands =
-    let w = word_at prefix code items labels facts place bit 0x22 stands in
-    let s = chain_item prefix code items 0 (length code) w.0 w.1 facts.listing w.2 in
-    let same : take 8 (drop w.1.at code) ≡ bit ∷ (0x22 ∷ prefix) = ap (λ n. take 8 (drop n code)) w.4 ∙ stands in
-    elim (item_word prefix code w.1.at bit w.1.item facts.six w.3 s.0) [
-      | inl c ↦ absurd (kinds_differ 0x11 0x22 refl refl (second_cell c.0 0x11 bit 0x22 prefix prefix (sym c.2 ∙ same)))
-      | inr r ↦ record { j = w.0; q = w.1; stands = w.2; is = r.1 ∙ ap Ret (first_cell r.0 0x22 bit 0x22 prefix prefix (sym r.3 ∙ same)); at = w.4 }
+pub return_at : (code : LabelledCode) → Facts code → (place bit : ℕ) → take 8 (drop place code.bytes) ≡ return_word bit code.prefix →
+    IsWordItem code.items (Ret bit) place
+return_at code facts place bit stands =
+    let w = word_at code facts place bit 0x22 stands in
+    let s = chain_item code.prefix code.bytes code.items 0 (length code.bytes) w.0 w.1 facts.listing w.2 in
+    let same : take 8 (drop w.1.at code.bytes) ≡ bit ∷ (0x22 ∷ code.prefix) = ap (λ n. take 8 (drop n code.bytes)) w.4 ∙ stands in
+    elim (item_word code.prefix code.bytes w.1.at bit w.1.item facts.six w.3 s.0) [
+      | inl c ↦ absurd (kinds_differ 0x11 0x22 refl refl (second_cell c.0 0x11 bit 0x22 code.prefix code.prefix (sym c.2 ∙ same)))
+      | inr r ↦ record { j = w.0; q = w.1; stands = w.2; is = r.1 ∙ ap Ret (first_cell r.0 0x22 bit 0x22 code.prefix code.prefix (sym r.3 ∙ same)); at = w.4 }
     ]
 
 -- a word has eight bytes
@@ -250,9 +251,9 @@ eight_of prefix (Plain i) six e = absurd (true≢false (sym e))
 eight_of prefix (ReturnUnit bit) six e = absurd (true≢false (sym e))
 eight_of prefix (CallUnit r bits) six e = absurd (true≢false (sym e))
 
-pub word_length : (prefix code : List ℕ) (items : List Placed) (labels : Labelling) → Facts prefix code items labels → (j : ℕ) (q : Placed) → slice_get items j ≡ Some q → is_word q.item ≡ true → q.len ≡ 8
-word_length prefix code items labels facts j q e word =
-    (chain_item prefix code items 0 (length code) j q facts.listing e).1 ∙ eight_of prefix q.item facts.six word
+pub word_length : (code : LabelledCode) → Facts code → (j : ℕ) (q : Placed) → slice_get code.items j ≡ Some q → is_word q.item ≡ true → q.len ≡ 8
+word_length code facts j q e word =
+    (chain_item code.prefix code.bytes code.items 0 (length code.bytes) j q facts.listing e).1 ∙ eight_of code.prefix q.item facts.six word
 
 -- ---- what a direct call names
 

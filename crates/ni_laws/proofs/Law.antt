@@ -11,7 +11,7 @@ use Rattle.code_sweep.specs.declared.item.Item.{Item}
 use Rattle.code_sweep.specs.declared.item.Item.TheVariants.{Call, Ret, Plain, ReturnUnit, CallUnit}
 use Rattle.code_sweep.specs.declared.item.Placed.{Placed}
 use Rattle.taint_flow.specs.Label.{Label, entry_label}
-use Rattle.taint_flow.specs.Flow.{address_after, Labelling, said_behind}
+use Rattle.taint_flow.specs.Flow.{address_after, said_behind}
 use Rattle.image_form.specs.Image.{Image, IsGood, signature, word, spelling}
 use Rattle.std.specs.List.{concat, flat_map}
 use Rattle.std.proofs.lemmas.Option.{same_Some, none-some}
@@ -26,7 +26,7 @@ use Rattle.cv_word.specs.GateStep.{Tape}
 use Rattle.cv_word.specs.Memory.{items_at}
 use Rattle.cv_word.specs.Memory.{padded}
 use Rattle.cv_word.specs.MemoryMap.{first_mapped}
-use Rattle.ni_laws.specs.Agreement.{HasSixteen, Equal, AtItem, at_item, CoresAlike, Common, Apart, agree}
+use Rattle.ni_laws.specs.Agreement.{LabelledCode, accepted_code, HasSixteen, Equal, AtItem, at_item, CoresAlike, Common, Apart, agree}
 use Rattle.ni_laws.proofs.Items.{Facts, found, nowhere, search_items}
 use Rattle.ni_laws.proofs.Bytes.{left_bytes, right_bytes, append_bytes, zeros_are}
 use Rattle.ni_laws.proofs.Landing.{landed_word}
@@ -64,20 +64,20 @@ behind_is : (p : Placed) → code_base + (p.at + p.len) ≡ address_after p
 behind_is p = omega arith
 
 -- a core starts at an item
-starts_at : (image : Image) (items : List Placed) (labels : Labelling) → Facts image.prefix image.code items labels → (k entry : ℕ) → FollowsCallWord items entry →
-    AtItem items labels (start_registers image k entry) (start_registers image k entry)
-starts_at image items labels facts k entry f =
+starts_at : (code : LabelledCode) → Facts code → (image : Image) (k entry : ℕ) → FollowsCallWord code.items entry →
+    AtItem code (start_registers image k entry) (start_registers image k entry)
+starts_at code facts image k entry f =
     let w = call_word_said f.1.item f.3 in
-    landed_word image.prefix image.code items labels facts f.0 f.1 w.1.0 _ _ f.2 w.0 w.1.1 (ap (λ n. code_base + n) (sym f.4) ∙ behind_is f.1)
+    landed_word code facts f.0 f.1 w.1.0 _ _ f.2 w.0 w.1.1 (ap (λ n. code_base + n) (sym f.4) ∙ behind_is f.1)
     (equal_self w.1.0 (start_registers image k entry) (start_sixteen image k entry))
 
-start_cores_alike : (image : Image) (items : List Placed) (labels : Labelling) → Facts image.prefix image.code items labels → (k : ℕ) (entries : List ℕ) →
-    ((n : ℕ) (entry : ℕ) → slice_get entries n ≡ Some entry → FollowsCallWord items entry) →
-    CoresAlike image.prefix image.code items labels (start_cores image k entries) (start_cores image k entries)
-start_cores_alike image items labels facts k [] f = tt
-start_cores_alike image items labels facts k (entry ∷ entries) f = (
-  record { ended = refl; counters = refl; standing = λ h. at_item (starts_at image items labels facts k entry (f 0 entry refl)) },
-  start_cores_alike image items labels facts (suc k) entries (λ n e h. f (suc n) e h),
+start_cores_alike : (code : LabelledCode) → Facts code → (image : Image) (k : ℕ) (entries : List ℕ) →
+    ((n : ℕ) (entry : ℕ) → slice_get entries n ≡ Some entry → FollowsCallWord code.items entry) →
+    CoresAlike code (start_cores image k entries) (start_cores image k entries)
+start_cores_alike code facts image k [] f = tt
+start_cores_alike code facts image k (entry ∷ entries) f = (
+  record { ended = refl; counters = refl; standing = λ h. at_item (starts_at code facts image k entry (f 0 entry refl)) },
+  start_cores_alike code facts image (suc k) entries (λ n e h. f (suc n) e h),
 )
 
 -- ---- the facts of an accepted image
@@ -111,7 +111,7 @@ spelled_bytes image are = record {
 pub image_bytes : (bytes : List ℕ) (image : Image) → AreBytes bytes → IsImage bytes image → HasBytes image
 image_bytes bytes image are is = spelled_bytes image (subst (λ (l : List ℕ). AreBytes l) is.spelled are)
 
-pub facts_of : (image : Image) (accepted : IsAcceptedImage image) → IsGood image → AreBytes image.prefix → AreBytes image.code → Facts image.prefix image.code accepted.items accepted.labels
+pub facts_of : (image : Image) (accepted : IsAcceptedImage image) → IsGood image → AreBytes image.prefix → AreBytes image.code → Facts (accepted_code image accepted)
 facts_of image accepted good prefix code = record {
   six = good.prefix_len;
   prefix_bytes = prefix;
@@ -167,9 +167,9 @@ law_of_image image accepted good has shared mine yours schedule =
     let facts = facts_of image accepted good has.prefix has.code in
     let entry_follows : (n entry : ℕ) → slice_get image.entries n ≡ Some entry → FollowsCallWord accepted.items entry =
     λ n entry h. follows accepted.items entry (λ none. accepted.shape V9 entry (n, entry, h, refl, none)) in
-    let cores = start_cores_alike image accepted.items accepted.labels facts 0 image.entries entry_follows in
-    same_view image.prefix image.code accepted.items accepted.labels image.seg_size _ _
-    (run_alike image.prefix image.code accepted.items accepted.labels facts image.seg_size schedule _ _
+    let cores = start_cores_alike (accepted_code image accepted) facts image 0 image.entries entry_follows in
+    same_view (accepted_code image accepted) image.seg_size _ _
+    (run_alike (accepted_code image accepted) facts image.seg_size schedule _ _
     (agree (start_cores image 0 image.entries) (start_cores image 0 image.entries) (common_of image shared) (apart_of image mine) (apart_of image yours) Running cores
     (record {
       public = padded_bytes first_mapped image.seg_size image.public has.public;

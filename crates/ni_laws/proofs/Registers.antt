@@ -7,6 +7,7 @@ use Rattle.cv_word.specs.declared.registers.Registers.{Registers}
 use Rattle.x64_decode.specs.Spelling.{number}
 use Rattle.x64_decode.specs.declared.instr.Reg.{Reg}
 use Rattle.x64_decode.specs.declared.instr.Reg.TheVariants as reg
+use Rattle.x64_decode.proofs.Tables.{number_below}
 use Rattle.taint_flow.specs.Label.{Label, flags, taint, set, set_reg, set_where, IsAtMost}
 use Rattle.x64_alu.specs.CoreStep.{value, put, put_where, flagged, moved_to}
 use Rattle.std.specs.Int.{bit_at}
@@ -15,24 +16,6 @@ use Rattle.code_sweep.specs.declared.item.Item.TheVariants.{ReturnUnit}
 use Rattle.taint_flow.specs.Label.{entry_label, return_label}
 use Rattle.taint_flow.specs.Flow.{passes_private, returns_private}
 use Rattle.ni_laws.specs.Agreement.{HasSixteen, EqualUnder, Equal, inside_label}
-
-pub number_below : (r : Reg) → number r < 16
-number_below reg.Rax = omega arith
-number_below reg.Rcx = omega arith
-number_below reg.Rdx = omega arith
-number_below reg.Rbx = omega arith
-number_below reg.Rsp = omega arith
-number_below reg.Rbp = omega arith
-number_below reg.Rsi = omega arith
-number_below reg.Rdi = omega arith
-number_below reg.Gpr8 = omega arith
-number_below reg.Gpr9 = omega arith
-number_below reg.Gpr10 = omega arith
-number_below reg.Gpr11 = omega arith
-number_below reg.Gpr12 = omega arith
-number_below reg.Gpr13 = omega arith
-number_below reg.Gpr14 = omega arith
-number_below reg.Gpr15 = omega arith
 
 -- a label at the name that was set, and at another
 pub set_same : (l : Label) (name k : ℕ) (b : Bool) → k ≡ name → set name b l k ≡ b

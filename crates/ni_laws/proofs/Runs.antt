@@ -16,8 +16,6 @@ use Rattle.x64_decode.specs.declared.instr.Instr.TheVariants as instr
 use Rattle.cv_word.specs.Memory.{Memory, is_segment_word}
 use Rattle.two_segments.specs.Access.{stored, flat_stored}
 use Rattle.x64_alu.specs.CoreStep.{Effect, goes, faults, value, after_division, after_load, after_store, after_comparison, after_push, executed, after_fetch, core_step, instruction_in, offset_of}
-use Rattle.code_sweep.specs.declared.item.Placed.{Placed}
-use Rattle.taint_flow.specs.Flow.{Labelling}
 use Rattle.x64_machine.specs.declared.outcome.Outcome.{Outcome}
 use Rattle.x64_machine.specs.declared.outcome.Outcome.TheVariants as outcome
 use Rattle.std.specs.List.{list_all}
@@ -27,7 +25,7 @@ use Rattle.cv_word.specs.GateStep.{GateEffect, ends_core, exits, runs_out}
 use Rattle.cv_word.specs.MemoryMap.{code_base}
 use Rattle.cv_word.specs.declared.gates.Gate.{Gate}
 use Rattle.x64_machine.specs.Run.{Core, Configuration, after_step, after_gate, after_core_end, outcome_of_ended, step_at, step_core, step, run, View, view, position_of}
-use Rattle.ni_laws.specs.Agreement.{CoreAlike, CoresAlike, Standing, at_item, at_raise, at_stage, at_gate, Common, Apart, memory_of, IsCommon, config, Agree, agree}
+use Rattle.ni_laws.specs.Agreement.{LabelledCode, CoreAlike, CoresAlike, Standing, at_item, at_raise, at_stage, at_gate, Common, Apart, memory_of, IsCommon, config, Agree, agree}
 use Rattle.ni_laws.proofs.Bytes.{spliced_bytes}
 use Rattle.ni_laws.proofs.Items.{Facts}
 use Rattle.ni_laws.proofs.Checks.{StepsAlike, both_step, same_fault}
@@ -113,182 +111,182 @@ step_bytes m s h = where_bytes (is_in_code (length m.code) s.pc) _ (fetched_byte
 -- ---- configurations
 
 -- the cores of one number are both there or neither is
-data PairAlike (prefix code : List ℕ) (items : List Placed) (labels : Labelling) : Option Core → Option Core → Type 0 where
-  no_core : PairAlike prefix code items labels None None
-  both_cores : (c d : Core) → CoreAlike prefix code items labels c d → PairAlike prefix code items labels (Some c) (Some d)
+data PairAlike (code : LabelledCode) : Option Core → Option Core → Type 0 where
+  no_core : PairAlike code None None
+  both_cores : (c d : Core) → CoreAlike code c d → PairAlike code (Some c) (Some d)
 
-pair_at : (prefix code : List ℕ) (items : List Placed) (labels : Labelling) (cs ds : List Core) (i : ℕ) → CoresAlike prefix code items labels cs ds → PairAlike prefix code items labels (slice_get cs i) (slice_get ds i)
-pair_at prefix code items labels [] [] i a = no_core
-pair_at prefix code items labels (c ∷ cs) (d ∷ ds) zero a = both_cores c d a.0
-pair_at prefix code items labels (c ∷ cs) (d ∷ ds) (suc i) a = pair_at prefix code items labels cs ds i a.1
-pair_at prefix code items labels [] (d ∷ ds) i a = absurd a
-pair_at prefix code items labels (c ∷ cs) [] i a = absurd a
+pair_at : (code : LabelledCode) (cs ds : List Core) (i : ℕ) → CoresAlike code cs ds → PairAlike code (slice_get cs i) (slice_get ds i)
+pair_at code [] [] i a = no_core
+pair_at code (c ∷ cs) (d ∷ ds) zero a = both_cores c d a.0
+pair_at code (c ∷ cs) (d ∷ ds) (suc i) a = pair_at code cs ds i a.1
+pair_at code [] (d ∷ ds) i a = absurd a
+pair_at code (c ∷ cs) [] i a = absurd a
 
-alike_set : (prefix code : List ℕ) (items : List Placed) (labels : Labelling) (cs ds : List Core) (i : ℕ) (c d : Core) → CoresAlike prefix code items labels cs ds → CoreAlike prefix code items labels c d →
-    CoresAlike prefix code items labels (slice_set cs i c) (slice_set ds i d)
-alike_set prefix code items labels [] [] i c d a b = a
-alike_set prefix code items labels (x ∷ cs) (y ∷ ds) zero c d a b = (b, a.1)
-alike_set prefix code items labels (x ∷ cs) (y ∷ ds) (suc i) c d a b = (a.0, alike_set prefix code items labels cs ds i c d a.1 b)
-alike_set prefix code items labels [] (y ∷ ds) i c d a b = absurd a
-alike_set prefix code items labels (x ∷ cs) [] i c d a b = absurd a
+alike_set : (code : LabelledCode) (cs ds : List Core) (i : ℕ) (c d : Core) → CoresAlike code cs ds → CoreAlike code c d →
+    CoresAlike code (slice_set cs i c) (slice_set ds i d)
+alike_set code [] [] i c d a b = a
+alike_set code (x ∷ cs) (y ∷ ds) zero c d a b = (b, a.1)
+alike_set code (x ∷ cs) (y ∷ ds) (suc i) c d a b = (a.0, alike_set code cs ds i c d a.1 b)
+alike_set code [] (y ∷ ds) i c d a b = absurd a
+alike_set code (x ∷ cs) [] i c d a b = absurd a
 
-unless : (prefix code : List ℕ) (items : List Placed) (labels : Labelling) (size : ℕ) (a b : Bool) (x y z w : Configuration) → a ≡ b →
-    Agree prefix code items labels size x y → (a ≡ false → Agree prefix code items labels size z w) →
-    Agree prefix code items labels size (cond a x z) (cond b y w)
-unless prefix code items labels size true true x y z w same ended running = ended
-unless prefix code items labels size false false x y z w same ended running = running refl
-unless prefix code items labels size true false x y z w same ended running = absurd (true≢false same)
-unless prefix code items labels size false true x y z w same ended running = absurd (true≢false (sym same))
+unless : (code : LabelledCode) (size : ℕ) (a b : Bool) (x y z w : Configuration) → a ≡ b →
+    Agree code size x y → (a ≡ false → Agree code size z w) →
+    Agree code size (cond a x z) (cond b y w)
+unless code size true true x y z w same ended running = ended
+unless code size false false x y z w same ended running = running refl
+unless code size true false x y z w same ended running = absurd (true≢false same)
+unless code size false true x y z w same ended running = absurd (true≢false (sym same))
 
 both_and : {a b c d : Bool} → a ≡ b → c ≡ d → (a && c) ≡ (b && d)
 both_and e f = cc
 
 -- whether all have ended is the same
-ended_alike : (prefix code : List ℕ) (items : List Placed) (labels : Labelling) (cs ds : List Core) → CoresAlike prefix code items labels cs ds →
+ended_alike : (code : LabelledCode) (cs ds : List Core) → CoresAlike code cs ds →
     list_all (λ (core : Core). core.ended) cs ≡ list_all (λ (core : Core). core.ended) ds
-ended_alike prefix code items labels [] [] a = refl
-ended_alike prefix code items labels (c ∷ cs) (d ∷ ds) a = both_and a.0.ended (ended_alike prefix code items labels cs ds a.1)
-ended_alike prefix code items labels [] (d ∷ ds) a = absurd a
-ended_alike prefix code items labels (c ∷ cs) [] a = absurd a
+ended_alike code [] [] a = refl
+ended_alike code (c ∷ cs) (d ∷ ds) a = both_and a.0.ended (ended_alike code cs ds a.1)
+ended_alike code [] (d ∷ ds) a = absurd a
+ended_alike code (c ∷ cs) [] a = absurd a
 
-ended_outcomes : (prefix code : List ℕ) (items : List Placed) (labels : Labelling) (cs ds : List Core) → CoresAlike prefix code items labels cs ds →
+ended_outcomes : (code : LabelledCode) (cs ds : List Core) → CoresAlike code cs ds →
     outcome_of_ended cs ≡ outcome_of_ended ds
-ended_outcomes prefix code items labels cs ds a =
-    ap (λ (b : Bool). cond b (outcome.Exited (pos 0)) outcome.Running) (ended_alike prefix code items labels cs ds a)
+ended_outcomes code cs ds a =
+    ap (λ (b : Bool). cond b (outcome.Exited (pos 0)) outcome.Running) (ended_alike code cs ds a)
 
-module _ (prefix code : List ℕ) (items : List Placed) (labels : Labelling) (size : ℕ) where
+module _ (code : LabelledCode) (size : ℕ) where
   -- what an instruction leaves
   after_alike : (cs ds : List Core) (common : Common) (mine yours : Apart) (o : Outcome) (i : ℕ) (c d : Core) (e f : Effect) →
-      CoresAlike prefix code items labels cs ds → IsCommon prefix common → length mine.output ≡ length yours.output → LeavesBytes e → c.ended ≡ d.ended →
-      c.registers.pc ≡ d.registers.pc → StepsAlike prefix code items labels size e f →
-      Agree prefix code items labels size (after_step e i c (config size code cs common mine o)) (after_step f i d (config size code ds common yours o))
+      CoresAlike code cs ds → IsCommon code common → length mine.output ≡ length yours.output → LeavesBytes e → c.ended ≡ d.ended →
+      c.registers.pc ≡ d.registers.pc → StepsAlike code size e f →
+      Agree code size (after_step e i c (config size code cs common mine o)) (after_step f i d (config size code ds common yours o))
   after_alike cs ds common mine yours o i c d e f a is outputs left ended pcs (both_step s t public' mine' yours' counters standing) =
       agree _ _ (record common { public = public' }) (record mine { segment = mine' }) (record yours { segment = yours' }) o
-      (alike_set prefix code items labels cs ds i _ _ a (record { ended = ended; counters = counters; standing = λ h. standing }))
+      (alike_set code cs ds i _ _ a (record { ended = ended; counters = counters; standing = λ h. standing }))
       (record { public = left; prefix_is = is.prefix_is; input = is.input; tapes = is.tapes }) outputs
   after_alike cs ds common mine yours o i c d e f a is outputs left ended pcs (same_fault kind) =
-      let P : ℕ → Type 0 = λ pc. Agree prefix code items labels size
+      let P : ℕ → Type 0 = λ pc. Agree code size
       (config size code cs common mine (outcome.Fault i c.registers.pc kind)) (config size code ds common yours (outcome.Fault i pc kind)) in
       subst P pcs (agree cs ds common mine yours (outcome.Fault i c.registers.pc kind) a is outputs)
 
   -- what a core that ends leaves
   core_end_alike : (cs ds : List Core) (common : Common) (mine yours : Apart) (o : Outcome) (i : ℕ) (c d : Core) →
-      CoresAlike prefix code items labels cs ds → IsCommon prefix common → length mine.output ≡ length yours.output → c.registers.pc ≡ d.registers.pc →
-      Agree prefix code items labels size (after_core_end i c (config size code cs common mine o)) (after_core_end i d (config size code ds common yours o))
+      CoresAlike code cs ds → IsCommon code common → length mine.output ≡ length yours.output → c.registers.pc ≡ d.registers.pc →
+      Agree code size (after_core_end i c (config size code cs common mine o)) (after_core_end i d (config size code ds common yours o))
   core_end_alike cs ds common mine yours o i c d a is outputs pcs =
       let ended : Core → Core = λ core. record core { ended = true } in
       let cs' : List Core = slice_set cs i (ended c) in
       let ds' : List Core = slice_set ds i (ended d) in
-      let a' : CoresAlike prefix code items labels cs' ds' =
-      alike_set prefix code items labels cs ds i (ended c) (ended d) a (record { ended = refl; counters = pcs; standing = λ h. absurd (true≢false h) }) in
-      let P : Outcome → Type 0 = λ x. Agree prefix code items labels size
+      let a' : CoresAlike code cs' ds' =
+      alike_set code cs ds i (ended c) (ended d) a (record { ended = refl; counters = pcs; standing = λ h. absurd (true≢false h) }) in
+      let P : Outcome → Type 0 = λ x. Agree code size
       (config size code cs' common mine (outcome_of_ended cs')) (config size code ds' common yours x) in
-      subst P (ended_outcomes prefix code items labels cs' ds' a') (agree cs' ds' common mine yours (outcome_of_ended cs') a' is outputs)
+      subst P (ended_outcomes code cs' ds' a') (agree cs' ds' common mine yours (outcome_of_ended cs') a' is outputs)
 
   -- what a gate step leaves
   after_gates : (cs ds : List Core) (common : Common) (mine yours : Apart) (o : Outcome) (i : ℕ) (c d : Core) (e f : GateEffect) →
-      CoresAlike prefix code items labels cs ds → IsCommon prefix common → length mine.output ≡ length yours.output → c.ended ≡ d.ended →
-      c.registers.pc ≡ d.registers.pc → GatesAlike prefix code items labels size e f →
-      Agree prefix code items labels size (after_gate e i c (config size code cs common mine o)) (after_gate f i d (config size code ds common yours o))
+      CoresAlike code cs ds → IsCommon code common → length mine.output ≡ length yours.output → c.ended ≡ d.ended →
+      c.registers.pc ≡ d.registers.pc → GatesAlike code size e f →
+      Agree code size (after_gate e i c (config size code cs common mine o)) (after_gate f i d (config size code ds common yours o))
   after_gates cs ds common mine yours o i c d e f a is outputs ended pcs (both_return s t later mine' yours' counters standing is' outputs') =
       agree _ _ later mine' yours' o
-      (alike_set prefix code items labels cs ds i _ _ a (record { ended = ended; counters = counters; standing = λ h. standing })) is' outputs'
+      (alike_set code cs ds i _ _ a (record { ended = ended; counters = counters; standing = λ h. standing })) is' outputs'
   after_gates cs ds common mine yours o i c d e f a is outputs ended pcs (both_stop ends_core) =
       core_end_alike cs ds common mine yours o i c d a is outputs pcs
   after_gates cs ds common mine yours o i c d e f a is outputs ended pcs (both_stop (exits status)) =
       agree cs ds common mine yours (outcome.Exited status) a is outputs
   after_gates cs ds common mine yours o i c d e f a is outputs ended pcs (both_stop (runs_out class)) =
-      let P : ℕ → Type 0 = λ pc. Agree prefix code items labels size
+      let P : ℕ → Type 0 = λ pc. Agree code size
       (config size code cs common mine (outcome.Tape i c.registers.pc class)) (config size code ds common yours (outcome.Tape i pc class)) in
       subst P pcs (agree cs ds common mine yours (outcome.Tape i c.registers.pc class) a is outputs)
   after_gates cs ds common mine yours o i c d e f a is outputs ended pcs (both_refuse kind) =
-      let P : ℕ → Type 0 = λ pc. Agree prefix code items labels size
+      let P : ℕ → Type 0 = λ pc. Agree code size
       (config size code cs common mine (outcome.Fault i c.registers.pc kind)) (config size code ds common yours (outcome.Fault i pc kind)) in
       subst P pcs (agree cs ds common mine yours (outcome.Fault i c.registers.pc kind) a is outputs)
 
   -- at an item or in a unit, which are in the code, an instruction takes effect
   in_code : (cs ds : List Core) (common : Common) (mine yours : Apart) (o : Outcome) (i : ℕ) (c d : Core) →
-      CoresAlike prefix code items labels cs ds → IsCommon prefix common → length mine.output ≡ length yours.output → c.ended ≡ d.ended →
+      CoresAlike code cs ds → IsCommon code common → length mine.output ≡ length yours.output → c.ended ≡ d.ended →
       c.registers.pc ≡ d.registers.pc → code_base ≤ c.registers.pc →
-      StepsAlike prefix code items labels size (core_step (memory_of size code common mine) c.registers) (core_step (memory_of size code common yours) d.registers) →
-      Agree prefix code items labels size
+      StepsAlike code size (core_step (memory_of size code.bytes common mine) c.registers) (core_step (memory_of size code.bytes common yours) d.registers) →
+      Agree code size
       (step_at (gate_at c.registers.pc) i c (config size code cs common mine o)) (step_at (gate_at d.registers.pc) i d (config size code ds common yours o))
   in_code cs ds common mine yours o i c d a is outputs ended pcs high steps =
-      let P : Option Gate → Type 0 = λ g. Agree prefix code items labels size
+      let P : Option Gate → Type 0 = λ g. Agree code size
       (step_at g i c (config size code cs common mine o)) (step_at (gate_at d.registers.pc) i d (config size code ds common yours o)) in
-      let Q : Option Gate → Type 0 = λ g. Agree prefix code items labels size
+      let Q : Option Gate → Type 0 = λ g. Agree code size
       (step_at None i c (config size code cs common mine o)) (step_at g i d (config size code ds common yours o)) in
       let none : gate_at c.registers.pc ≡ None = no_gate_above c.registers.pc high in
       subst P (sym none) (subst Q (sym none ∙ ap (λ (x : ℕ). gate_at x) pcs)
-      (after_alike cs ds common mine yours o i c d _ _ a is outputs (step_bytes (memory_of size code common mine) c.registers is.public) ended pcs steps))
+      (after_alike cs ds common mine yours o i c d _ _ a is outputs (step_bytes (memory_of size code.bytes common mine) c.registers is.public) ended pcs steps))
 
-  module _ (facts : Facts prefix code items labels) where
+  module _ (facts : Facts code) where
     -- a core of each that runs, wherever they stand
     stands_alike : (cs ds : List Core) (common : Common) (mine yours : Apart) (o : Outcome) (i : ℕ) (c d : Core) →
-        CoresAlike prefix code items labels cs ds → IsCommon prefix common → length mine.output ≡ length yours.output → c.ended ≡ d.ended →
-        c.registers.pc ≡ d.registers.pc → Standing prefix code items labels c.registers d.registers →
-        Agree prefix code items labels size
+        CoresAlike code cs ds → IsCommon code common → length mine.output ≡ length yours.output → c.ended ≡ d.ended →
+        c.registers.pc ≡ d.registers.pc → Standing code c.registers d.registers →
+        Agree code size
         (step_at (gate_at c.registers.pc) i c (config size code cs common mine o)) (step_at (gate_at d.registers.pc) i d (config size code ds common yours o))
     stands_alike cs ds common mine yours o i c d a is outputs ended pcs (at_item x) =
         in_code cs ds common mine yours o i c d a is outputs ended pcs (omega (arith, x.here))
-        (item_alike prefix code items labels facts size common.public mine.segment yours.segment c.registers d.registers is.public x)
+        (item_alike code facts size common.public mine.segment yours.segment c.registers d.registers is.public x)
     stands_alike cs ds common mine yours o i c d a is outputs ended pcs (at_raise x) =
         in_code cs ds common mine yours o i c d a is outputs ended pcs (omega (arith, x.here))
-        (raise_alike prefix code items labels facts size common.public mine.segment yours.segment c.registers d.registers x)
+        (raise_alike code facts size common.public mine.segment yours.segment c.registers d.registers x)
     stands_alike cs ds common mine yours o i c d a is outputs ended pcs (at_stage stage x) =
         in_code cs ds common mine yours o i c d a is outputs ended pcs (omega (arith, x.here))
-        (stage_alike prefix code items labels facts size common.public mine.segment yours.segment c.registers d.registers stage x)
+        (stage_alike code facts size common.public mine.segment yours.segment c.registers d.registers stage x)
     stands_alike cs ds common mine yours o i c d a is outputs ended pcs (at_gate x) =
-        let P : Option Gate → Type 0 = λ g. Agree prefix code items labels size
+        let P : Option Gate → Type 0 = λ g. Agree code size
         (step_at g i c (config size code cs common mine o)) (step_at (gate_at d.registers.pc) i d (config size code ds common yours o)) in
-        let Q : Option Gate → Type 0 = λ g. Agree prefix code items labels size
+        let Q : Option Gate → Type 0 = λ g. Agree code size
         (step_at (Some x.gate) i c (config size code cs common mine o)) (step_at g i d (config size code ds common yours o)) in
         subst P (sym x.here) (subst Q (sym x.here ∙ ap (λ (n : ℕ). gate_at n) pcs)
         (after_gates cs ds common mine yours o i c d _ _ a is outputs ended pcs
-        (gates_step prefix code items labels facts size x.gate common mine yours c.registers d.registers x.equal is outputs)))
+        (gates_step code facts size x.gate common mine yours c.registers d.registers x.equal is outputs)))
 
     core_steps : (cs ds : List Core) (common : Common) (mine yours : Apart) (o : Outcome) (i : ℕ) (oc od : Option Core) →
-        CoresAlike prefix code items labels cs ds → IsCommon prefix common → length mine.output ≡ length yours.output → PairAlike prefix code items labels oc od →
-        Agree prefix code items labels size
+        CoresAlike code cs ds → IsCommon code common → length mine.output ≡ length yours.output → PairAlike code oc od →
+        Agree code size
         (step_core oc i (config size code cs common mine o)) (step_core od i (config size code ds common yours o))
     core_steps cs ds common mine yours o i oc od a is outputs no_core = agree cs ds common mine yours o a is outputs
     core_steps cs ds common mine yours o i oc od a is outputs (both_cores c d pair) =
-        unless prefix code items labels size c.ended d.ended _ _ _ _ pair.ended (agree cs ds common mine yours o a is outputs)
+        unless code size c.ended d.ended _ _ _ _ pair.ended (agree cs ds common mine yours o a is outputs)
         (λ runs. stands_alike cs ds common mine yours o i c d a is outputs pair.ended pair.counters (pair.standing runs))
 
 -- THE LAW OF ONE STEP
-pub step_alike : (prefix code : List ℕ) (items : List Placed) (labels : Labelling) → Facts prefix code items labels → (size i : ℕ) (c d : Configuration) →
-    Agree prefix code items labels size c d → Agree prefix code items labels size (step i c) (step i d)
+pub step_alike : (code : LabelledCode) → Facts code → (size i : ℕ) (c d : Configuration) →
+    Agree code size c d → Agree code size (step i c) (step i d)
 unfolding step
-step_alike prefix code items labels facts size i c d (agree cs ds common mine yours outcome.Running a is outputs) =
-    core_steps prefix code items labels size facts cs ds common mine yours outcome.Running i _ _ a is outputs (pair_at prefix code items labels cs ds i a)
-step_alike prefix code items labels facts size i c d (agree cs ds common mine yours (outcome.Exited status) a is outputs) =
+step_alike code facts size i c d (agree cs ds common mine yours outcome.Running a is outputs) =
+    core_steps code size facts cs ds common mine yours outcome.Running i _ _ a is outputs (pair_at code cs ds i a)
+step_alike code facts size i c d (agree cs ds common mine yours (outcome.Exited status) a is outputs) =
     agree cs ds common mine yours (outcome.Exited status) a is outputs
-step_alike prefix code items labels facts size i c d (agree cs ds common mine yours (outcome.Fault core at kind) a is outputs) =
+step_alike code facts size i c d (agree cs ds common mine yours (outcome.Fault core at kind) a is outputs) =
     agree cs ds common mine yours (outcome.Fault core at kind) a is outputs
-step_alike prefix code items labels facts size i c d (agree cs ds common mine yours (outcome.Tape core at class) a is outputs) =
+step_alike code facts size i c d (agree cs ds common mine yours (outcome.Tape core at class) a is outputs) =
     agree cs ds common mine yours (outcome.Tape core at class) a is outputs
 
 -- a whole run
-pub run_alike : (prefix code : List ℕ) (items : List Placed) (labels : Labelling) → Facts prefix code items labels → (size : ℕ) (schedule : List ℕ) (c d : Configuration) →
-    Agree prefix code items labels size c d → Agree prefix code items labels size (run schedule c) (run schedule d)
-run_alike prefix code items labels facts size [] c d a = a
-run_alike prefix code items labels facts size (i ∷ schedule) c d a =
-    run_alike prefix code items labels facts size schedule (step i c) (step i d) (step_alike prefix code items labels facts size i c d a)
+pub run_alike : (code : LabelledCode) → Facts code → (size : ℕ) (schedule : List ℕ) (c d : Configuration) →
+    Agree code size c d → Agree code size (run schedule c) (run schedule d)
+run_alike code facts size [] c d a = a
+run_alike code facts size (i ∷ schedule) c d a =
+    run_alike code facts size schedule (step i c) (step i d) (step_alike code facts size i c d a)
 
 -- ---- views
 
-same_ended : (prefix code : List ℕ) (items : List Placed) (labels : Labelling) (cs ds : List Core) → CoresAlike prefix code items labels cs ds → map (λ (core : Core). core.ended) cs ≡ map (λ (core : Core). core.ended) ds
-same_ended prefix code items labels [] [] a = refl
-same_ended prefix code items labels (c ∷ cs) (d ∷ ds) a = let x = a.0.ended in let y = same_ended prefix code items labels cs ds a.1 in cc
-same_ended prefix code items labels [] (d ∷ ds) a = absurd a
-same_ended prefix code items labels (c ∷ cs) [] a = absurd a
+same_ended : (code : LabelledCode) (cs ds : List Core) → CoresAlike code cs ds → map (λ (core : Core). core.ended) cs ≡ map (λ (core : Core). core.ended) ds
+same_ended code [] [] a = refl
+same_ended code (c ∷ cs) (d ∷ ds) a = let x = a.0.ended in let y = same_ended code cs ds a.1 in cc
+same_ended code [] (d ∷ ds) a = absurd a
+same_ended code (c ∷ cs) [] a = absurd a
 
-same_counters : (prefix code : List ℕ) (items : List Placed) (labels : Labelling) (cs ds : List Core) → CoresAlike prefix code items labels cs ds → map (λ (core : Core). core.registers.pc) cs ≡ map (λ (core : Core). core.registers.pc) ds
-same_counters prefix code items labels [] [] a = refl
-same_counters prefix code items labels (c ∷ cs) (d ∷ ds) a = let x = a.0.counters in let y = same_counters prefix code items labels cs ds a.1 in cc
-same_counters prefix code items labels [] (d ∷ ds) a = absurd a
-same_counters prefix code items labels (c ∷ cs) [] a = absurd a
+same_counters : (code : LabelledCode) (cs ds : List Core) → CoresAlike code cs ds → map (λ (core : Core). core.registers.pc) cs ≡ map (λ (core : Core). core.registers.pc) ds
+same_counters code [] [] a = refl
+same_counters code (c ∷ cs) (d ∷ ds) a = let x = a.0.counters in let y = same_counters code cs ds a.1 in cc
+same_counters code [] (d ∷ ds) a = absurd a
+same_counters code (c ∷ cs) [] a = absurd a
 
 -- a view by its parts
 abbrev viewed : Common → Outcome → List Bool → List ℕ → ℕ → View
@@ -307,9 +305,9 @@ viewed common o ended counters count = record {
   private_output_length = count;
 }
 
-pub same_view : (prefix code : List ℕ) (items : List Placed) (labels : Labelling) (size : ℕ) (c d : Configuration) → Agree prefix code items labels size c d → view c ≡ view d
-same_view prefix code items labels size c d (agree cs ds common mine yours o a is outputs) =
-    let x = same_ended prefix code items labels cs ds a in let y = same_counters prefix code items labels cs ds a in
+pub same_view : (code : LabelledCode) (size : ℕ) (c d : Configuration) → Agree code size c d → view c ≡ view d
+same_view code size c d (agree cs ds common mine yours o a is outputs) =
+    let x = same_ended code cs ds a in let y = same_counters code cs ds a in
     ap (λ (ended : List Bool). viewed common o ended (map (λ (core : Core). core.registers.pc) cs) (length mine.output)) x
     ∙ ap (λ (counters : List ℕ). viewed common o (map (λ (core : Core). core.ended) ds) counters (length mine.output)) y
     ∙ ap (λ (n : ℕ). viewed common o (map (λ (core : Core). core.ended) ds) (map (λ (core : Core). core.registers.pc) ds) n) outputs

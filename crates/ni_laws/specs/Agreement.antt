@@ -17,9 +17,25 @@ use Rattle.taint_flow.specs.Label.{Label, flags, taint, set, set_reg, entry_labe
 use Rattle.taint_flow.specs.Flow.{Labelling, address}
 use Rattle.cv_word.specs.Memory.{Memory}
 use Rattle.x64_alu.specs.CoreStep.{value}
+use Rattle.image_form.specs.Image.{Image}
 use Rattle.conf_verify.specs.Rules.{is_word}
+use Rattle.conf_verify.specs.Verdict.{IsAcceptedImage}
 use Rattle.x64_machine.specs.declared.outcome.Outcome.{Outcome}
 use Rattle.x64_machine.specs.Run.{Core, Configuration}
+
+-- ---- the code
+
+-- A code as the checker sees it: the prefix of its words, its bytes, the items that stand in it, and for each item the label
+-- before it, which says what may be private there.
+pub record LabelledCode : Type 0 where
+  pub prefix : List ℕ
+  pub bytes : List ℕ
+  pub items : List Placed
+  pub labels : Labelling
+
+-- the code of an accepted image, with the items and labels by which it was accepted
+abbrev pub accepted_code : (image : Image) → IsAcceptedImage image → LabelledCode
+accepted_code image accepted = record { prefix = image.prefix; bytes = image.code; items = accepted.items; labels = accepted.labels }
 
 -- ---- two cores
 
@@ -41,13 +57,13 @@ pub record Equal (l : Label) (s t : Registers) : Type 0 where
   pub stack : value s Rsp ≡ value t Rsp
 
 -- At the start of an item that is no word, what its label leaves public is equal.
-pub record AtItem (items : List Placed) (labels : Labelling) (s t : Registers) : Type 0 where
+pub record AtItem (code : LabelledCode) (s t : Registers) : Type 0 where
   pub i : ℕ
   pub p : Placed
-  pub stands : slice_get items i ≡ Some p
+  pub stands : slice_get code.items i ≡ Some p
   pub no_word : is_word p.item ≡ false
   pub here : s.pc ≡ address p
-  pub equal : Equal (labels i) s t
+  pub equal : Equal (code.labels i) s t
 
 -- Inside a check unit r10, r11 and the flags are the unit's own.
 abbrev pub inside_label : Label → Label
@@ -61,14 +77,14 @@ pub record InUnit (l : Label) (s t : Registers) : Type 0 where
   pub small : value s Gpr10 < 2 ^ 32
 
 -- in a return unit, before 8 is added to rsp
-pub record AtRaise (items : List Placed) (labels : Labelling) (s t : Registers) : Type 0 where
+pub record AtRaise (code : LabelledCode) (s t : Registers) : Type 0 where
   pub i : ℕ
   pub p : Placed
   pub bit : ℕ
-  pub stands : slice_get items i ≡ Some p
+  pub stands : slice_get code.items i ≡ Some p
   pub unit : p.item ≡ ReturnUnit bit
   pub here : s.pc ≡ address p + 10
-  pub inside : InUnit (labels i) s t
+  pub inside : InUnit (code.labels i) s t
 
 -- The check of a unit, told by the instruction that is next: MOV of the inverse to r11, NOT, CMP, JE, UD2, ADD, and the jump
 -- or the call.
@@ -122,17 +138,17 @@ has_compared leaves = true
 has_compared _ = false
 
 -- inside the check of a unit
-pub record AtStage (prefix code : List ℕ) (items : List Placed) (labels : Labelling) (stage : Stage) (s t : Registers) : Type 0 where
+pub record AtStage (code : LabelledCode) (stage : Stage) (s t : Registers) : Type 0 where
   pub i : ℕ
   pub p : Placed
   pub start : ℕ
   pub word : List ℕ
-  pub stands : slice_get items i ≡ Some p
-  pub checks : check_of prefix p.item ≡ Some (start, word)
+  pub stands : slice_get code.items i ≡ Some p
+  pub checks : check_of code.prefix p.item ≡ Some (start, word)
   pub here : s.pc ≡ address p + start + stage_offset stage
-  pub inside : InUnit (labels i) s t
-  pub mine : Holds code word stage s
-  pub yours : Holds code word stage t
+  pub inside : InUnit (code.labels i) s t
+  pub mine : Holds code.bytes word stage s
+  pub yours : Holds code.bytes word stage t
   pub flags : has_compared stage ≡ true → s.flags ≡ t.flags
 
 -- at a gate the arguments whose bit is clear are equal
@@ -142,25 +158,25 @@ pub record AtGate (s t : Registers) : Type 0 where
   pub equal : Equal (entry_label (bits_of gate)) s t
 
 -- A running core stands at the start of an item that is no word, inside a unit, or at a gate.
-pub data Standing (prefix code : List ℕ) (items : List Placed) (labels : Labelling) (s t : Registers) : Type 0 where
-  at_item : AtItem items labels s t → Standing prefix code items labels s t
-  at_raise : AtRaise items labels s t → Standing prefix code items labels s t
-  at_stage : (stage : Stage) → AtStage prefix code items labels stage s t → Standing prefix code items labels s t
-  at_gate : AtGate s t → Standing prefix code items labels s t
+pub data Standing (code : LabelledCode) (s t : Registers) : Type 0 where
+  at_item : AtItem code s t → Standing code s t
+  at_raise : AtRaise code s t → Standing code s t
+  at_stage : (stage : Stage) → AtStage code stage s t → Standing code s t
+  at_gate : AtGate s t → Standing code s t
 
 -- ---- two configurations
 
 -- Two cores: both have ended or neither has; the program counters are equal; and where they run, they stand alike.
-pub record CoreAlike (prefix code : List ℕ) (items : List Placed) (labels : Labelling) (c d : Core) : Type 0 where
+pub record CoreAlike (code : LabelledCode) (c d : Core) : Type 0 where
   pub ended : c.ended ≡ d.ended
   pub counters : c.registers.pc ≡ d.registers.pc
-  pub standing : c.ended ≡ false → Standing prefix code items labels c.registers d.registers
+  pub standing : c.ended ≡ false → Standing code c.registers d.registers
 
-abbrev pub CoresAlike : List ℕ → List ℕ → List Placed → Labelling → List Core → List Core → Type 0
-CoresAlike prefix code items labels [] [] = Unit {0}
-CoresAlike prefix code items labels (c ∷ cs) (d ∷ ds) = CoreAlike prefix code items labels c d × CoresAlike prefix code items labels cs ds
-CoresAlike prefix code items labels [] (d ∷ ds) = ⊥
-CoresAlike prefix code items labels (c ∷ cs) [] = ⊥
+abbrev pub CoresAlike : LabelledCode → List Core → List Core → Type 0
+CoresAlike code [] [] = Unit {0}
+CoresAlike code (c ∷ cs) (d ∷ ds) = CoreAlike code c d × CoresAlike code cs ds
+CoresAlike code [] (d ∷ ds) = ⊥
+CoresAlike code (c ∷ cs) [] = ⊥
 
 -- a memory by its parts
 abbrev pub memory : ℕ → List ℕ → List ℕ → List ℕ → Memory
@@ -192,22 +208,22 @@ abbrev pub releasers_of : Common → Apart → Releasers
 releasers_of common apart = record { held = common.held; tapes = common.tapes; asked = apart.asked }
 
 -- a configuration by its parts
-abbrev pub config : ℕ → List ℕ → List Core → Common → Apart → Outcome → Configuration
+abbrev pub config : ℕ → LabelledCode → List Core → Common → Apart → Outcome → Configuration
 config size code cores common apart o = record {
-  state = record { cores = cores; memory = memory_of size code common apart; world = world_of common apart; outcome = o };
+  state = record { cores = cores; memory = memory_of size code.bytes common apart; world = world_of common apart; outcome = o };
   releasers = releasers_of common apart;
 }
 
 -- What two runs have in common is bytes, and the gates look for words of the code's prefix.
-pub record IsCommon (prefix : List ℕ) (common : Common) : Type 0 where
+pub record IsCommon (code : LabelledCode) (common : Common) : Type 0 where
   pub public : AreBytes common.public
-  pub prefix_is : common.visible.prefix ≡ prefix
+  pub prefix_is : common.visible.prefix ≡ code.prefix
   pub input : AreBytes common.visible.public_input
   pub tapes : (class : ℕ) → AreBytes (common.tapes class).left.bytes
 
 -- Two configurations of a code agree: their cores are alike; size, outcome and what they have in common are the same; and their
 -- private outputs are of one length. So their views are equal.
-pub data Agree (prefix code : List ℕ) (items : List Placed) (labels : Labelling) (size : ℕ) : Configuration → Configuration → Type 0 where
-  agree : (cs ds : List Core) (common : Common) (mine yours : Apart) (o : Outcome) → CoresAlike prefix code items labels cs ds → IsCommon prefix common →
+pub data Agree (code : LabelledCode) (size : ℕ) : Configuration → Configuration → Type 0 where
+  agree : (cs ds : List Core) (common : Common) (mine yours : Apart) (o : Outcome) → CoresAlike code cs ds → IsCommon code common →
       length mine.output ≡ length yours.output →
-      Agree prefix code items labels size (config size code cs common mine o) (config size code ds common yours o)
+      Agree code size (config size code cs common mine o) (config size code ds common yours o)

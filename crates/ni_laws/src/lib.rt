@@ -10,12 +10,12 @@ ghost use Rattle.image_form.specs.Image.{Image, IsGood};
 ghost use Rattle.conf_verify.specs.Verdict.{IsAccepted, IsAcceptedImage};
 ghost use Rattle.x64_machine.specs.Run.{Configuration, step};
 ghost use Rattle.x64_machine.specs.Noninterference.{Noninterfering};
-ghost use Rattle.ni_laws.specs.Agreement.{Agree};
+ghost use Rattle.ni_laws.specs.Agreement.{Agree, accepted_code};
 
 /// Where two configurations of an accepted code agree and the same core takes a step in both, they agree
 /// again.
 pub fn step_law()
-    ensures { (image : Image) (accepted : IsAcceptedImage image) (size core : ℕ) (mine yours : Configuration) → IsGood image → AreBytes image.prefix → AreBytes image.code → Agree image.prefix image.code accepted.items accepted.labels size mine yours → Agree image.prefix image.code accepted.items accepted.labels size (step core mine) (step core yours) }
+    ensures { (image : Image) (accepted : IsAcceptedImage image) (size core : ℕ) (mine yours : Configuration) → IsGood image → AreBytes image.prefix → AreBytes image.code → Agree (accepted_code image accepted) size mine yours → Agree (accepted_code image accepted) size (step core mine) (step core yours) }
 {}
 
 /// Accepted bytes are noninterfering, whatever made them: what may be seen of two runs is the same, whatever
