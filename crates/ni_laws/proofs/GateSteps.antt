@@ -9,7 +9,7 @@ use Rattle.cv_word.specs.Words.{AreBytes, little_endian, word_bytes, spliced, su
 use Rattle.cv_word.specs.MemoryMap.{code_base, is_mapped}
 use Rattle.cv_word.specs.Marks.{return_word}
 use Rattle.cv_word.specs.Gates.{bits_of, result_bit}
-use Rattle.cv_word.specs.Memory.{is_good, items_at}
+use Rattle.cv_word.specs.Memory.{Memory, is_good, items_at}
 use Rattle.cv_word.specs.GateStep.{Visible, TapeState, Ending, ends_core, exits, runs_out, most_output, private_range, answers, ends, GateEffect, goes, stops, faults, gate_step, from_waiting, unless_refused, after_work, work, refusal, reads, writes, read_from, arguments_of, returned, rsp_of, stands_in_code, is_short, advanced, with_class, copied, next_private, after_private, audit_entry}
 use Rattle.cv_word.specs.Heap.{taken_at, after_take, gives, after_give}
 use Rattle.std.specs.Prelude.{unwrap_or}
@@ -28,8 +28,9 @@ use Rattle.taint_flow.specs.Label.{Label, taint, entry_label, return_label}
 use Rattle.taint_flow.specs.Flow.{address_after, said_behind}
 use Rattle.conf_verify.specs.Rules.{is_word}
 use Rattle.x64_alu.specs.CoreStep.{value, put}
-use Rattle.ni_laws.specs.Agreement.{LabelledCode, Equal, Standing, at_item, memory, Common, Apart, memory_of, world_of, releasers_of, IsCommon}
+use Rattle.ni_laws.specs.Agreement.{LabelledCode, Equal, Standing, at_item, Common, Apart, Two, memory_of, world_of, releasers_of, TwoAlike}
 use Rattle.ni_laws.proofs.Bytes.{spliced_are, take_bytes, drop_bytes}
+use Rattle.ni_laws.proofs.Sides.{my_memory, your_memory, my_world, your_world, my_releasers, your_releasers, seeing, seen, apart, set_apart}
 use Rattle.ni_laws.proofs.Items.{Facts, return_at, word_length}
 use Rattle.ni_laws.proofs.Registers.{sixteen_put, value_same, value_other}
 use Rattle.ni_laws.proofs.Landing.{landed_word}
@@ -78,28 +79,26 @@ back bit l s t n m next small same e =
 
 -- ---- two effects of a gate step
 
-abbrev returns : ℕ → List ℕ → Registers → Common → Apart → GateEffect
-returns size code s common apart = goes s (memory_of size code common apart) (world_of common apart) (releasers_of common apart)
+abbrev returns : LabelledCode → Registers → Common → Apart → GateEffect
+returns code s common apart = goes s (memory_of code.bytes common apart) (world_of common apart) (releasers_of common apart)
 
+-- Two effects of a gate: both go on and the cores stand alike again, beside configurations that are alike; or both stop alike; or
+-- the fault is the same.
 pub data GatesAlike (code : LabelledCode) (size : ℕ) : GateEffect → GateEffect → Type 0 where
-  both_return : (s t : Registers) (common : Common) (mine yours : Apart) → s.pc ≡ t.pc → Standing code s t → IsCommon code common →
-      length mine.output ≡ length yours.output →
-      GatesAlike code size
-      (goes s (memory size code.bytes common.public mine.segment) (world_of common mine) (releasers_of common mine))
-      (goes t (memory size code.bytes common.public yours.segment) (world_of common yours) (releasers_of common yours))
+  both_return : (s t : Registers) (later : Two) → s.pc ≡ t.pc → Standing code s t → TwoAlike code size later →
+      GatesAlike code size (returns code s later.common later.mine) (returns code t later.common later.yours)
   both_stop : (ending : Ending) → GatesAlike code size (stops ending) (stops ending)
   both_refuse : (kind : FaultKind) → GatesAlike code size (faults kind) (faults kind)
 
 -- ---- a gate's work, where two cores wait at one word
 
 -- what is so where two cores have entered a gate, and the word at which they wait was found
-record Entered (code : LabelledCode) (g : Gate) (next : ℕ) (common : Common) (mine yours : Apart) (s t : Registers) : Type 0 where
+record Entered (code : LabelledCode) (size : ℕ) (g : Gate) (next : ℕ) (two : Two) (s t : Registers) : Type 0 where
   place : ℕ
   here : next ≡ code_base + place + 8
   stands : take 8 (drop place code.bytes) ≡ return_word (result_bit g) code.prefix
   equal : Equal (entry_label (bits_of g)) s t
-  is_common : IsCommon code common
-  outputs : length mine.output ≡ length yours.output
+  known : TwoAlike code size two
 
 bit_small : (g : Gate) → result_bit g < 2
 bit_small gate.Exit = omega arith
@@ -173,30 +172,30 @@ same_bytes_are : (xs ys : List ℕ) → bytes_eq xs ys ≡ true → xs ≡ ys
 same_bytes_are xs ys e = (bytes_eq-Decides xs ys).0 e
 
 -- gates refuse alike
-refusals : (g : Gate) (size : ℕ) (common : Common) (mine yours : Apart) (s t : Registers) → Equal (entry_label (bits_of g)) s t → length mine.output ≡ length yours.output →
-    refusal size g (arguments_of s) (world_of common mine) (releasers_of common mine) ≡ refusal size g (arguments_of t) (world_of common yours) (releasers_of common yours)
+refusals : (g : Gate) (two : Two) (s t : Registers) → Equal (entry_label (bits_of g)) s t → length two.mine.output ≡ length two.yours.output →
+    refusal two.common.size g (arguments_of s) (my_world two) (my_releasers two) ≡ refusal two.common.size g (arguments_of t) (your_world two) (your_releasers two)
 unfolding refusal
-refusals gate.Exit size common mine yours s t e outputs = refl
-refusals gate.CoreEnd size common mine yours s t e outputs = refl
-refusals gate.PubIn size common mine yours s t e outputs =
-    both_ap (λ a b. refusal size gate.PubIn (args a b 0 0) (world_of common mine) (releasers_of common mine)) (first_same 0x0c s t e refl) (second_same 0x0c s t e refl)
-refusals gate.PubOut size common mine yours s t e outputs =
-    both_ap (λ a b. refusal size gate.PubOut (args a b 0 0) (world_of common mine) (releasers_of common mine)) (first_same 0x0c s t e refl) (second_same 0x0c s t e refl)
-refusals gate.PrivIn size common mine yours s t e outputs =
-    both_ap (λ a b. refusal size gate.PrivIn (args a b 0 0) (world_of common mine) (releasers_of common mine)) (first_same 0x0c s t e refl) (second_same 0x0c s t e refl)
-refusals gate.PrivOut size common mine yours s t e outputs =
-    both_ap (λ a b. refusal size gate.PrivOut (args a b 0 0) (world_of common mine) (releasers_of common mine)) (first_same 0x0c s t e refl) (second_same 0x0c s t e refl)
-    ∙ ap (λ (n : ℕ). cond (not (is_good size (private_range (first_of t) (second_of t)) && true)) (Some fault.Range) (cond (nat_lt most_output (n + second_of t)) (Some fault.OutLimit) None)) outputs
-refusals gate.PrivGet size common mine yours s t e outputs = refl
-refusals gate.PrivPut size common mine yours s t e outputs =
+refusals gate.Exit two s t e outputs = refl
+refusals gate.CoreEnd two s t e outputs = refl
+refusals gate.PubIn two s t e outputs =
+    both_ap (λ a b. refusal two.common.size gate.PubIn (args a b 0 0) (my_world two) (my_releasers two)) (first_same 0x0c s t e refl) (second_same 0x0c s t e refl)
+refusals gate.PubOut two s t e outputs =
+    both_ap (λ a b. refusal two.common.size gate.PubOut (args a b 0 0) (my_world two) (my_releasers two)) (first_same 0x0c s t e refl) (second_same 0x0c s t e refl)
+refusals gate.PrivIn two s t e outputs =
+    both_ap (λ a b. refusal two.common.size gate.PrivIn (args a b 0 0) (my_world two) (my_releasers two)) (first_same 0x0c s t e refl) (second_same 0x0c s t e refl)
+refusals gate.PrivOut two s t e outputs =
+    both_ap (λ a b. refusal two.common.size gate.PrivOut (args a b 0 0) (my_world two) (my_releasers two)) (first_same 0x0c s t e refl) (second_same 0x0c s t e refl)
+    ∙ ap (λ (n : ℕ). cond (not (is_good two.common.size (private_range (first_of t) (second_of t)) && true)) (Some fault.Range) (cond (nat_lt most_output (n + second_of t)) (Some fault.OutLimit) None)) outputs
+refusals gate.PrivGet two s t e outputs = refl
+refusals gate.PrivPut two s t e outputs =
     ap (λ (n : ℕ). cond (nat_lt most_output (n + 8)) (Some fault.OutLimit) None) outputs
-refusals gate.PubAlloc size common mine yours s t e outputs = refl
-refusals gate.PrivAlloc size common mine yours s t e outputs = refl
-refusals gate.PubFree size common mine yours s t e outputs = refl
-refusals gate.PrivFree size common mine yours s t e outputs = refl
-refusals gate.Release size common mine yours s t e outputs =
-    both_ap (λ a b. refusal size gate.Release (args a b (third_of s) (fourth_of s)) (world_of common mine) (releasers_of common mine)) (first_same 0x00 s t e refl) (second_same 0x00 s t e refl)
-    ∙ both_ap (λ c d. refusal size gate.Release (args (first_of t) (second_of t) c d) (world_of common mine) (releasers_of common mine)) (third_same 0x00 s t e refl) (fourth_same 0x00 s t e refl)
+refusals gate.PubAlloc two s t e outputs = refl
+refusals gate.PrivAlloc two s t e outputs = refl
+refusals gate.PubFree two s t e outputs = refl
+refusals gate.PrivFree two s t e outputs = refl
+refusals gate.Release two s t e outputs =
+    both_ap (λ a b. refusal two.common.size gate.Release (args a b (third_of s) (fourth_of s)) (my_world two) (my_releasers two)) (first_same 0x00 s t e refl) (second_same 0x00 s t e refl)
+    ∙ both_ap (λ c d. refusal two.common.size gate.Release (args (first_of t) (second_of t) c d) (my_world two) (my_releasers two)) (third_same 0x00 s t e refl) (fourth_same 0x00 s t e refl)
 
 -- a tape after a release has bytes
 chosen_bytes : (test : Bool) (x y : TapeState) → AreBytes x.left.bytes → AreBytes y.left.bytes → AreBytes (cond test x y).left.bytes
@@ -210,210 +209,198 @@ advanced_bytes count tapes d class are =
     chosen_bytes (class == d) (advanced count (tapes d)) (tapes class) (drop_bytes count (tapes d).left.bytes (are d)) (are class)
 
 module _ (code : LabelledCode) (facts : Facts code) (size : ℕ) where
-  -- both go on behind the word, with new parts
-  on_behind : (g : Gate) (next : ℕ) (common : Common) (mine yours : Apart) (s t : Registers) → Entered code g next common mine yours s t →
-      (n m : ℕ) → (result_bit g ≡ 0 → n ≡ m) → (later : Common) (mine' yours' : Apart) → IsCommon code later → length mine'.output ≡ length yours'.output →
-      GatesAlike code size (returns size code.bytes (returned n next s) later mine') (returns size code.bytes (returned m next t) later yours')
-  on_behind g next common mine yours s t e n m same later mine' yours' is outputs =
-      let found = return_at code facts e.place (result_bit g) e.stands in
-      let word : is_word found.q.item ≡ true = ap is_word found.is in
-      let long = word_length code facts found.j found.q found.stands word in
-      both_return (returned n next s) (returned m next t) later mine' yours' refl
-      (at_item (landed_word code facts found.j found.q (return_label (result_bit g)) _ _ found.stands word (ap said_behind found.is)
-      (behind e.place next found.q e.here found.at long) (back (result_bit g) (entry_label (bits_of g)) s t n m next (bit_small g) same e.equal))) is outputs
-
-  -- what two runs have in common stays what it is where only what may be seen changes, and the prefix and the input stay
-  seen_common : (common : Common) (v : Visible) → IsCommon code common → v.prefix ≡ common.visible.prefix → v.public_input ≡ common.visible.public_input →
-      IsCommon code (record common { visible = v })
-  seen_common common v is p i = record {
-    public = is.public;
-    prefix_is = p ∙ is.prefix_is;
-    input = subst (λ (l : List ℕ). AreBytes l) (sym i) is.input;
-    tapes = is.tapes;
-  }
-
   -- ---- the work of each gate, with equal public arguments
 
-  abbrev Works : Gate → ℕ → Common → Apart → Apart → Registers → Registers → Arguments → Arguments → Type 0
-  Works g next common mine yours s t a b = GatesAlike code size
-      (after_work (work g a (read_from (memory_of size code.bytes common mine) (reads g a)) (world_of common mine) (releasers_of common mine)) next (writes g a) s (memory_of size code.bytes common mine))
-      (after_work (work g b (read_from (memory_of size code.bytes common yours) (reads g b)) (world_of common yours) (releasers_of common yours)) next (writes g b) t (memory_of size code.bytes common yours))
+  module _ (next : ℕ) (two : Two) (s t : Registers) where
+    -- both go on behind the word, with other parts
+    on_behind : (g : Gate) → Entered code size g next two s t → (n m : ℕ) → (result_bit g ≡ 0 → n ≡ m) → (later : Two) → TwoAlike code size later →
+        GatesAlike code size (returns code (returned n next s) later.common later.mine) (returns code (returned m next t) later.common later.yours)
+    on_behind g e n m same later known =
+        let found = return_at code facts e.place (result_bit g) e.stands in
+        let word : is_word found.q.item ≡ true = ap is_word found.is in
+        let long = word_length code facts found.j found.q found.stands word in
+        both_return (returned n next s) (returned m next t) later refl
+        (at_item (landed_word code facts found.j found.q (return_label (result_bit g)) _ _ found.stands word (ap said_behind found.is)
+        (behind e.place next found.q e.here found.at long) (back (result_bit g) (entry_label (bits_of g)) s t n m next (bit_small g) same e.equal))) known
 
-  -- PubIn
-  reads_public : (next : ℕ) (common : Common) (mine yours : Apart) (s t : Registers) → Entered code gate.PubIn next common mine yours s t →
-      (a b c d x y : ℕ) → Works gate.PubIn next common mine yours s t (args a b c d) (args a b x y)
-  unfolding work
-  reads_public next common mine yours s t e a b c d x y =
-      let v : Visible = common.visible in
-      let count : ℕ = copied b v in
-      let bytes : List ℕ = items_at v.public_input v.public_position count in
-      on_behind gate.PubIn next common mine yours s t e count count (λ h. refl)
-      (record common { public = spliced common.public a bytes; visible = record v { public_position = v.public_position + count } }) mine yours
-      (record {
-        public = spliced_are common.public bytes a e.is_common.public (items_at-bytes count v.public_input v.public_position e.is_common.input);
-        prefix_is = e.is_common.prefix_is;
-        input = e.is_common.input;
-        tapes = e.is_common.tapes;
-      }) e.outputs
+    abbrev Works : Gate → Arguments → Arguments → Type 0
+    Works g a b = GatesAlike code size
+        (after_work (work g a (read_from (my_memory code.bytes two) (reads g a)) (my_world two) (my_releasers two)) next (writes g a) s (my_memory code.bytes two))
+        (after_work (work g b (read_from (your_memory code.bytes two) (reads g b)) (your_world two) (your_releasers two)) next (writes g b) t (your_memory code.bytes two))
 
-  -- PubOut
-  writes_public : (next : ℕ) (common : Common) (mine yours : Apart) (s t : Registers) → Entered code gate.PubOut next common mine yours s t →
-      (a b c d x y : ℕ) → Works gate.PubOut next common mine yours s t (args a b c d) (args a b x y)
-  unfolding work
-  writes_public next common mine yours s t e a b c d x y =
-      let v : Visible = record common.visible { public_output = common.visible.public_output ++ items_at common.public a b } in
-      on_behind gate.PubOut next common mine yours s t e b b (λ h. refl) (record common { visible = v }) mine yours
-      (seen_common common v e.is_common refl refl) e.outputs
+    -- PubIn
+    reads_public : Entered code size gate.PubIn next two s t → (a b c d x y : ℕ) → Works gate.PubIn (args a b c d) (args a b x y)
+    unfolding work
+    reads_public e a b c d x y =
+        let v : Visible = two.common.visible in
+        let count : ℕ = copied b v in
+        let bytes : List ℕ = items_at v.public_input v.public_position count in
+        on_behind gate.PubIn e count count (λ h. refl)
+        (record two { common = record two.common { public = spliced two.common.public a bytes; visible = record v { public_position = v.public_position + count } } })
+        (record {
+          size_is = e.known.size_is;
+          cores = e.known.cores;
+          public = spliced_are two.common.public bytes a e.known.public (items_at-bytes count v.public_input v.public_position e.known.input);
+          prefix_is = e.known.prefix_is;
+          input = e.known.input;
+          tapes = e.known.tapes;
+          outputs = e.known.outputs;
+        })
 
-  -- PrivIn
-  reads_private : (next : ℕ) (common : Common) (mine yours : Apart) (s t : Registers) → Entered code gate.PrivIn next common mine yours s t →
-      (a b c d x y : ℕ) → Works gate.PrivIn next common mine yours s t (args a b c d) (args a b x y)
-  unfolding work
-  reads_private next common mine yours s t e a b c d x y =
-      let v : Visible = (after_private b (world_of common mine)).visible in
-      on_behind gate.PrivIn next common mine yours s t e b b (λ h. refl) (record common { visible = v })
-      (record mine { segment = spliced mine.segment a (next_private b (world_of common mine)) })
-      (record yours { segment = spliced yours.segment a (next_private b (world_of common yours)) })
-      (seen_common common v e.is_common refl refl) e.outputs
+    -- PubOut
+    writes_public : Entered code size gate.PubOut next two s t → (a b c d x y : ℕ) → Works gate.PubOut (args a b c d) (args a b x y)
+    unfolding work
+    writes_public e a b c d x y =
+        let v : Visible = record two.common.visible { public_output = two.common.visible.public_output ++ items_at two.common.public a b } in
+        on_behind gate.PubOut e b b (λ h. refl) (seeing v two) (seen code size two v e.known refl refl)
 
-  -- PrivOut
-  writes_private : (next : ℕ) (common : Common) (mine yours : Apart) (s t : Registers) → Entered code gate.PrivOut next common mine yours s t →
-      (a b c d x y : ℕ) → Works gate.PrivOut next common mine yours s t (args a b c d) (args a b x y)
-  unfolding work
-  writes_private next common mine yours s t e a b c d x y =
-      let xs : List ℕ = items_at mine.segment a b in
-      let ys : List ℕ = items_at yours.segment a b in
-      on_behind gate.PrivOut next common mine yours s t e b b (λ h. refl) common
-      (record mine { output = mine.output ++ xs }) (record yours { output = yours.output ++ ys }) e.is_common
-      (longer mine.output yours.output xs ys e.outputs (length-items_at mine.segment a b ∙ sym (length-items_at yours.segment a b)))
+    -- PrivIn
+    reads_private : Entered code size gate.PrivIn next two s t → (a b c d x y : ℕ) → Works gate.PrivIn (args a b c d) (args a b x y)
+    unfolding work
+    reads_private e a b c d x y =
+        let v : Visible = (after_private b (my_world two)).visible in
+        let mine' : Apart = record two.mine { segment = spliced two.mine.segment a (next_private b (my_world two)) } in
+        let yours' : Apart = record two.yours { segment = spliced two.yours.segment a (next_private b (your_world two)) } in
+        on_behind gate.PrivIn e b b (λ h. refl) (apart mine' yours' (seeing v two))
+        (set_apart code size (seeing v two) mine' yours' (seen code size two v e.known refl refl) e.known.cores e.known.outputs)
 
-  -- PrivGet
-  gets_private : (next : ℕ) (common : Common) (mine yours : Apart) (s t : Registers) → Entered code gate.PrivGet next common mine yours s t →
-      (a b : Arguments) → Works gate.PrivGet next common mine yours s t a b
-  unfolding work
-  gets_private next common mine yours s t e a b =
-      let v : Visible = (after_private 8 (world_of common mine)).visible in
-      on_behind gate.PrivGet next common mine yours s t e (little_endian (next_private 8 (world_of common mine))) (little_endian (next_private 8 (world_of common yours)))
-      (λ h. absurd (one_is_none 1 refl h)) (record common { visible = v }) mine yours (seen_common common v e.is_common refl refl) e.outputs
+    -- PrivOut
+    writes_private : Entered code size gate.PrivOut next two s t → (a b c d x y : ℕ) → Works gate.PrivOut (args a b c d) (args a b x y)
+    unfolding work
+    writes_private e a b c d x y =
+        let xs : List ℕ = items_at two.mine.segment a b in
+        let ys : List ℕ = items_at two.yours.segment a b in
+        let mine' : Apart = record two.mine { output = two.mine.output ++ xs } in
+        let yours' : Apart = record two.yours { output = two.yours.output ++ ys } in
+        on_behind gate.PrivOut e b b (λ h. refl) (apart mine' yours' two)
+        (set_apart code size two mine' yours' e.known e.known.cores
+        (longer two.mine.output two.yours.output xs ys e.known.outputs (length-items_at two.mine.segment a b ∙ sym (length-items_at two.yours.segment a b))))
 
-  -- PrivPut
-  puts_private : (next : ℕ) (common : Common) (mine yours : Apart) (s t : Registers) → Entered code gate.PrivPut next common mine yours s t →
-      (a b : Arguments) → Works gate.PrivPut next common mine yours s t a b
-  unfolding work
-  puts_private next common mine yours s t e a b =
-      let xs : List ℕ = word_bytes 8 a.first in
-      let ys : List ℕ = word_bytes 8 b.first in
-      on_behind gate.PrivPut next common mine yours s t e 0 0 (λ h. refl) common
-      (record mine { output = mine.output ++ xs }) (record yours { output = yours.output ++ ys }) e.is_common
-      (longer mine.output yours.output xs ys e.outputs refl)
+    -- PrivGet
+    gets_private : Entered code size gate.PrivGet next two s t → (a b : Arguments) → Works gate.PrivGet a b
+    unfolding work
+    gets_private e a b =
+        let v : Visible = (after_private 8 (my_world two)).visible in
+        on_behind gate.PrivGet e (little_endian (next_private 8 (my_world two))) (little_endian (next_private 8 (your_world two)))
+        (λ h. absurd (one_is_none 1 refl h)) (seeing v two) (seen code size two v e.known refl refl)
 
-  -- PubAlloc, PrivAlloc, PubFree and PrivFree
-  takes_public : (next : ℕ) (common : Common) (mine yours : Apart) (s t : Registers) → Entered code gate.PubAlloc next common mine yours s t →
-      (n b c d x y z : ℕ) → Works gate.PubAlloc next common mine yours s t (args n b c d) (args n x y z)
-  unfolding work
-  takes_public next common mine yours s t e n b c d x y z =
-      let v : Visible = record common.visible { public_heap = after_take common.visible.public_heap n } in
-      let at : ℕ = unwrap_or (taken_at common.visible.public_heap n) 0 in
-      on_behind gate.PubAlloc next common mine yours s t e at at (λ h. refl) (record common { visible = v }) mine yours (seen_common common v e.is_common refl refl) e.outputs
+    -- PrivPut
+    puts_private : Entered code size gate.PrivPut next two s t → (a b : Arguments) → Works gate.PrivPut a b
+    unfolding work
+    puts_private e a b =
+        let xs : List ℕ = word_bytes 8 a.first in
+        let ys : List ℕ = word_bytes 8 b.first in
+        let mine' : Apart = record two.mine { output = two.mine.output ++ xs } in
+        let yours' : Apart = record two.yours { output = two.yours.output ++ ys } in
+        on_behind gate.PrivPut e 0 0 (λ h. refl) (apart mine' yours' two)
+        (set_apart code size two mine' yours' e.known e.known.cores (longer two.mine.output two.yours.output xs ys e.known.outputs refl))
 
-  takes_private : (next : ℕ) (common : Common) (mine yours : Apart) (s t : Registers) → Entered code gate.PrivAlloc next common mine yours s t →
-      (n b c d x y z : ℕ) → Works gate.PrivAlloc next common mine yours s t (args n b c d) (args n x y z)
-  unfolding work
-  takes_private next common mine yours s t e n b c d x y z =
-      let v : Visible = record common.visible { private_heap = after_take common.visible.private_heap n } in
-      let at : ℕ = unwrap_or (taken_at common.visible.private_heap n) 0 in
-      on_behind gate.PrivAlloc next common mine yours s t e at at (λ h. refl) (record common { visible = v }) mine yours (seen_common common v e.is_common refl refl) e.outputs
+    -- PubAlloc, PrivAlloc, PubFree and PrivFree
+    takes_public : Entered code size gate.PubAlloc next two s t → (n b c d x y z : ℕ) → Works gate.PubAlloc (args n b c d) (args n x y z)
+    unfolding work
+    takes_public e n b c d x y z =
+        let v : Visible = record two.common.visible { public_heap = after_take two.common.visible.public_heap n } in
+        let at : ℕ = unwrap_or (taken_at two.common.visible.public_heap n) 0 in
+        on_behind gate.PubAlloc e at at (λ h. refl) (seeing v two) (seen code size two v e.known refl refl)
 
-  gives_public : (next : ℕ) (common : Common) (mine yours : Apart) (s t : Registers) → Entered code gate.PubFree next common mine yours s t →
-      (at b c d x y z : ℕ) → Works gate.PubFree next common mine yours s t (args at b c d) (args at x y z)
-  unfolding work
-  gives_public next common mine yours s t e at b c d x y z =
-      let v : Visible = record common.visible { public_heap = after_give common.visible.public_heap at } in
-      let answer : ℕ = cond (gives common.visible.public_heap at) 1 0 in
-      on_behind gate.PubFree next common mine yours s t e answer answer (λ h. refl) (record common { visible = v }) mine yours (seen_common common v e.is_common refl refl) e.outputs
+    takes_private : Entered code size gate.PrivAlloc next two s t → (n b c d x y z : ℕ) → Works gate.PrivAlloc (args n b c d) (args n x y z)
+    unfolding work
+    takes_private e n b c d x y z =
+        let v : Visible = record two.common.visible { private_heap = after_take two.common.visible.private_heap n } in
+        let at : ℕ = unwrap_or (taken_at two.common.visible.private_heap n) 0 in
+        on_behind gate.PrivAlloc e at at (λ h. refl) (seeing v two) (seen code size two v e.known refl refl)
 
-  gives_private : (next : ℕ) (common : Common) (mine yours : Apart) (s t : Registers) → Entered code gate.PrivFree next common mine yours s t →
-      (at b c d x y z : ℕ) → Works gate.PrivFree next common mine yours s t (args at b c d) (args at x y z)
-  unfolding work
-  gives_private next common mine yours s t e at b c d x y z =
-      let v : Visible = record common.visible { private_heap = after_give common.visible.private_heap at } in
-      let answer : ℕ = cond (gives common.visible.private_heap at) 1 0 in
-      on_behind gate.PrivFree next common mine yours s t e answer answer (λ h. refl) (record common { visible = v }) mine yours (seen_common common v e.is_common refl refl) e.outputs
+    gives_public : Entered code size gate.PubFree next two s t → (at b c d x y z : ℕ) → Works gate.PubFree (args at b c d) (args at x y z)
+    unfolding work
+    gives_public e at b c d x y z =
+        let v : Visible = record two.common.visible { public_heap = after_give two.common.visible.public_heap at } in
+        let answer : ℕ = cond (gives two.common.visible.public_heap at) 1 0 in
+        on_behind gate.PubFree e answer answer (λ h. refl) (seeing v two) (seen code size two v e.known refl refl)
 
-  -- Release
-  released : (next : ℕ) (common : Common) (mine yours : Apart) (s t : Registers) → Entered code gate.Release next common mine yours s t →
-      (a b c d : ℕ) (short : Bool) → is_short c (common.tapes d).left ≡ short → Works gate.Release next common mine yours s t (args a b c d) (args a b c d)
-  unfolding work
-  released next common mine yours s t e a b c d short is =
-      let told : List ℕ = take c (common.tapes d).left.bytes in
-      let v : Visible = record common.visible { audit = common.visible.audit ++ audit_entry d c told } in
-      let later : Common = record common {
-        public = spliced common.public b told;
-        visible = v;
-        tapes = with_class d (advanced c (common.tapes d)) common.tapes;
-      } in
-      let mine' : Apart = record mine { asked = with_class d (mine.asked d ++ items_at mine.segment a c) mine.asked } in
-      let yours' : Apart = record yours { asked = with_class d (yours.asked d ++ items_at yours.segment a c) yours.asked } in
-      let P : Bool → Type 0 = λ x. GatesAlike code size
-      (after_work (cond x (ends (runs_out d)) (answers c told (world_of later mine) (releasers_of later mine'))) next (writes gate.Release (args a b c d)) s (memory_of size code.bytes common mine))
-      (after_work (cond x (ends (runs_out d)) (answers c told (world_of later yours) (releasers_of later yours'))) next (writes gate.Release (args a b c d)) t (memory_of size code.bytes common yours)) in
-      subst P (sym is)
-      (shorts P short (both_stop (runs_out d))
-      (on_behind gate.Release next common mine yours s t e c c (λ h. refl) later mine' yours'
-      (record {
-        public = spliced_are common.public told b e.is_common.public (take_bytes c (common.tapes d).left.bytes (e.is_common.tapes d));
-        prefix_is = e.is_common.prefix_is;
-        input = e.is_common.input;
-        tapes = λ class. advanced_bytes c common.tapes d class e.is_common.tapes;
-      }) e.outputs))
+    gives_private : Entered code size gate.PrivFree next two s t → (at b c d x y z : ℕ) → Works gate.PrivFree (args at b c d) (args at x y z)
+    unfolding work
+    gives_private e at b c d x y z =
+        let v : Visible = record two.common.visible { private_heap = after_give two.common.visible.private_heap at } in
+        let answer : ℕ = cond (gives two.common.visible.private_heap at) 1 0 in
+        on_behind gate.PrivFree e answer answer (λ h. refl) (seeing v two) (seen code size two v e.known refl refl)
 
-  -- the gate's work, with the arguments of the two cores
-  works : (g : Gate) (next : ℕ) (common : Common) (mine yours : Apart) (s t : Registers) → Entered code g next common mine yours s t →
-      Works g next common mine yours s t (arguments_of s) (arguments_of t)
-  unfolding work
-  works gate.Exit next common mine yours s t e =
-      subst (λ (x : ℕ). Works gate.Exit next common mine yours s t (arguments_of s) (args x (second_of t) (third_of t) (fourth_of t))) (first_same 0x0e s t e.equal refl)
-      (both_stop (exits (cast_signed w32 (first_of s % 2 ^ 32))))
-  works gate.CoreEnd next common mine yours s t e = both_stop ends_core
-  works gate.PubIn next common mine yours s t e =
-      along (λ a b. Works gate.PubIn next common mine yours s t (arguments_of s) (args a b (third_of t) (fourth_of t))) (first_same 0x0c s t e.equal refl) (second_same 0x0c s t e.equal refl)
-      (reads_public next common mine yours s t e (first_of s) (second_of s) (third_of s) (fourth_of s) (third_of t) (fourth_of t))
-  works gate.PubOut next common mine yours s t e =
-      along (λ a b. Works gate.PubOut next common mine yours s t (arguments_of s) (args a b (third_of t) (fourth_of t))) (first_same 0x0c s t e.equal refl) (second_same 0x0c s t e.equal refl)
-      (writes_public next common mine yours s t e (first_of s) (second_of s) (third_of s) (fourth_of s) (third_of t) (fourth_of t))
-  works gate.PrivIn next common mine yours s t e =
-      along (λ a b. Works gate.PrivIn next common mine yours s t (arguments_of s) (args a b (third_of t) (fourth_of t))) (first_same 0x0c s t e.equal refl) (second_same 0x0c s t e.equal refl)
-      (reads_private next common mine yours s t e (first_of s) (second_of s) (third_of s) (fourth_of s) (third_of t) (fourth_of t))
-  works gate.PrivOut next common mine yours s t e =
-      along (λ a b. Works gate.PrivOut next common mine yours s t (arguments_of s) (args a b (third_of t) (fourth_of t))) (first_same 0x0c s t e.equal refl) (second_same 0x0c s t e.equal refl)
-      (writes_private next common mine yours s t e (first_of s) (second_of s) (third_of s) (fourth_of s) (third_of t) (fourth_of t))
-  works gate.PrivGet next common mine yours s t e = gets_private next common mine yours s t e (arguments_of s) (arguments_of t)
-  works gate.PrivPut next common mine yours s t e = puts_private next common mine yours s t e (arguments_of s) (arguments_of t)
-  works gate.PubAlloc next common mine yours s t e =
-      subst (λ (x : ℕ). Works gate.PubAlloc next common mine yours s t (arguments_of s) (args x (second_of t) (third_of t) (fourth_of t))) (first_same 0x0e s t e.equal refl)
-      (takes_public next common mine yours s t e (first_of s) (second_of s) (third_of s) (fourth_of s) (second_of t) (third_of t) (fourth_of t))
-  works gate.PrivAlloc next common mine yours s t e =
-      subst (λ (x : ℕ). Works gate.PrivAlloc next common mine yours s t (arguments_of s) (args x (second_of t) (third_of t) (fourth_of t))) (first_same 0x0e s t e.equal refl)
-      (takes_private next common mine yours s t e (first_of s) (second_of s) (third_of s) (fourth_of s) (second_of t) (third_of t) (fourth_of t))
-  works gate.PubFree next common mine yours s t e =
-      subst (λ (x : ℕ). Works gate.PubFree next common mine yours s t (arguments_of s) (args x (second_of t) (third_of t) (fourth_of t))) (first_same 0x0e s t e.equal refl)
-      (gives_public next common mine yours s t e (first_of s) (second_of s) (third_of s) (fourth_of s) (second_of t) (third_of t) (fourth_of t))
-  works gate.PrivFree next common mine yours s t e =
-      subst (λ (x : ℕ). Works gate.PrivFree next common mine yours s t (arguments_of s) (args x (second_of t) (third_of t) (fourth_of t))) (first_same 0x0e s t e.equal refl)
-      (gives_private next common mine yours s t e (first_of s) (second_of s) (third_of s) (fourth_of s) (second_of t) (third_of t) (fourth_of t))
-  works gate.Release next common mine yours s t e =
-      along (λ a b. Works gate.Release next common mine yours s t (arguments_of s) (args a b (third_of t) (fourth_of t))) (first_same 0x00 s t e.equal refl) (second_same 0x00 s t e.equal refl)
-      (along (λ c d. Works gate.Release next common mine yours s t (arguments_of s) (args (first_of s) (second_of s) c d)) (third_same 0x00 s t e.equal refl) (fourth_same 0x00 s t e.equal refl)
-      (released next common mine yours s t e (first_of s) (second_of s) (third_of s) (fourth_of s) (is_short (third_of s) (common.tapes (fourth_of s)).left) refl))
+    -- Release
+    released : Entered code size gate.Release next two s t → (a b c d : ℕ) (short : Bool) → is_short c (two.common.tapes d).left ≡ short →
+        Works gate.Release (args a b c d) (args a b c d)
+    unfolding work
+    released e a b c d short is =
+        let told : List ℕ = take c (two.common.tapes d).left.bytes in
+        let later : Two = record {
+          common = record two.common {
+            public = spliced two.common.public b told;
+            visible = record two.common.visible { audit = two.common.visible.audit ++ audit_entry d c told };
+            tapes = with_class d (advanced c (two.common.tapes d)) two.common.tapes;
+          };
+          mine = record two.mine { asked = with_class d (two.mine.asked d ++ items_at two.mine.segment a c) two.mine.asked };
+          yours = record two.yours { asked = with_class d (two.yours.asked d ++ items_at two.yours.segment a c) two.yours.asked };
+        } in
+        let P : Bool → Type 0 = λ x. GatesAlike code size
+        (after_work (cond x (ends (runs_out d)) (answers c told (my_world later) (my_releasers later))) next (writes gate.Release (args a b c d)) s (my_memory code.bytes two))
+        (after_work (cond x (ends (runs_out d)) (answers c told (your_world later) (your_releasers later))) next (writes gate.Release (args a b c d)) t (your_memory code.bytes two)) in
+        subst P (sym is)
+        (shorts P short (both_stop (runs_out d))
+        (on_behind gate.Release e c c (λ h. refl) later
+        (record {
+          size_is = e.known.size_is;
+          cores = e.known.cores;
+          public = spliced_are two.common.public told b e.known.public (take_bytes c (two.common.tapes d).left.bytes (e.known.tapes d));
+          prefix_is = e.known.prefix_is;
+          input = e.known.input;
+          tapes = λ class. advanced_bytes c two.common.tapes d class e.known.tapes;
+          outputs = e.known.outputs;
+        })))
 
-  -- ---- the gate step
+    -- the gate's work, with the arguments of the two cores
+    works : (g : Gate) → Entered code size g next two s t → Works g (arguments_of s) (arguments_of t)
+    unfolding work
+    works gate.Exit e =
+        subst (λ (x : ℕ). Works gate.Exit (arguments_of s) (args x (second_of t) (third_of t) (fourth_of t))) (first_same 0x0e s t e.equal refl)
+        (both_stop (exits (cast_signed w32 (first_of s % 2 ^ 32))))
+    works gate.CoreEnd e = both_stop ends_core
+    works gate.PubIn e =
+        along (λ a b. Works gate.PubIn (arguments_of s) (args a b (third_of t) (fourth_of t))) (first_same 0x0c s t e.equal refl) (second_same 0x0c s t e.equal refl)
+        (reads_public e (first_of s) (second_of s) (third_of s) (fourth_of s) (third_of t) (fourth_of t))
+    works gate.PubOut e =
+        along (λ a b. Works gate.PubOut (arguments_of s) (args a b (third_of t) (fourth_of t))) (first_same 0x0c s t e.equal refl) (second_same 0x0c s t e.equal refl)
+        (writes_public e (first_of s) (second_of s) (third_of s) (fourth_of s) (third_of t) (fourth_of t))
+    works gate.PrivIn e =
+        along (λ a b. Works gate.PrivIn (arguments_of s) (args a b (third_of t) (fourth_of t))) (first_same 0x0c s t e.equal refl) (second_same 0x0c s t e.equal refl)
+        (reads_private e (first_of s) (second_of s) (third_of s) (fourth_of s) (third_of t) (fourth_of t))
+    works gate.PrivOut e =
+        along (λ a b. Works gate.PrivOut (arguments_of s) (args a b (third_of t) (fourth_of t))) (first_same 0x0c s t e.equal refl) (second_same 0x0c s t e.equal refl)
+        (writes_private e (first_of s) (second_of s) (third_of s) (fourth_of s) (third_of t) (fourth_of t))
+    works gate.PrivGet e = gets_private e (arguments_of s) (arguments_of t)
+    works gate.PrivPut e = puts_private e (arguments_of s) (arguments_of t)
+    works gate.PubAlloc e =
+        subst (λ (x : ℕ). Works gate.PubAlloc (arguments_of s) (args x (second_of t) (third_of t) (fourth_of t))) (first_same 0x0e s t e.equal refl)
+        (takes_public e (first_of s) (second_of s) (third_of s) (fourth_of s) (second_of t) (third_of t) (fourth_of t))
+    works gate.PrivAlloc e =
+        subst (λ (x : ℕ). Works gate.PrivAlloc (arguments_of s) (args x (second_of t) (third_of t) (fourth_of t))) (first_same 0x0e s t e.equal refl)
+        (takes_private e (first_of s) (second_of s) (third_of s) (fourth_of s) (second_of t) (third_of t) (fourth_of t))
+    works gate.PubFree e =
+        subst (λ (x : ℕ). Works gate.PubFree (arguments_of s) (args x (second_of t) (third_of t) (fourth_of t))) (first_same 0x0e s t e.equal refl)
+        (gives_public e (first_of s) (second_of s) (third_of s) (fourth_of s) (second_of t) (third_of t) (fourth_of t))
+    works gate.PrivFree e =
+        subst (λ (x : ℕ). Works gate.PrivFree (arguments_of s) (args x (second_of t) (third_of t) (fourth_of t))) (first_same 0x0e s t e.equal refl)
+        (gives_private e (first_of s) (second_of s) (third_of s) (fourth_of s) (second_of t) (third_of t) (fourth_of t))
+    works gate.Release e =
+        along (λ a b. Works gate.Release (arguments_of s) (args a b (third_of t) (fourth_of t))) (first_same 0x00 s t e.equal refl) (second_same 0x00 s t e.equal refl)
+        (along (λ c d. Works gate.Release (arguments_of s) (args (first_of s) (second_of s) c d)) (third_same 0x00 s t e.equal refl) (fourth_same 0x00 s t e.equal refl)
+        (released e (first_of s) (second_of s) (third_of s) (fourth_of s) (is_short (third_of s) (two.common.tapes (fourth_of s)).left) refl))
 
-  after_refusals : (g : Gate) (next : ℕ) (common : Common) (mine yours : Apart) (s t : Registers) → Entered code g next common mine yours s t → (o : Option FaultKind) →
-      GatesAlike code size
-      (unless_refused o g next s (memory_of size code.bytes common mine) (world_of common mine) (releasers_of common mine))
-      (unless_refused o g next t (memory_of size code.bytes common yours) (world_of common yours) (releasers_of common yours))
-  after_refusals g next common mine yours s t e (Some kind) = both_refuse kind
-  after_refusals g next common mine yours s t e None = works g next common mine yours s t e
+    -- ---- the gate step
+
+    after_refusals : (g : Gate) → Entered code size g next two s t → (o : Option FaultKind) →
+        GatesAlike code size
+        (unless_refused o g next s (my_memory code.bytes two) (my_world two) (my_releasers two))
+        (unless_refused o g next t (your_memory code.bytes two) (your_world two) (your_releasers two))
+    after_refusals g e (Some kind) = both_refuse kind
+    after_refusals g e None = works g e
 
   not_found : (test : Bool) (x y : GateEffect) → (test ≡ true → GatesAlike code size x y) → (kind : FaultKind) →
       GatesAlike code size (cond test x (faults kind)) (cond test y (faults kind))
@@ -421,48 +408,48 @@ module _ (code : LabelledCode) (facts : Facts code) (size : ℕ) where
   not_found false x y both kind = both_refuse kind
 
   -- the word that was found stands in the code
-  word_found : (at : ℕ) (word : List ℕ) (m : List ℕ) (private : List ℕ) → stands_in_code (memory size code.bytes m private) word at ≡ true →
-      (place : ℕ) × (at ≡ code_base + place) × (take 8 (drop place code.bytes) ≡ word)
+  word_found : (at : ℕ) (word : List ℕ) (m : Memory) → stands_in_code m word at ≡ true →
+      (place : ℕ) × (at ≡ code_base + place) × (take 8 (drop place m.code) ≡ word)
   unfolding stands_in_code
-  word_found at word m private e =
-      let outer = and_parts (nat_le code_base at && nat_le (at + 8) (code_base + length code.bytes)) (bytes_eq (take 8 (drop (at - code_base) code.bytes)) word) e in
-      let low : code_base ≤ at = leb-true code_base at (and_parts (nat_le code_base at) (nat_le (at + 8) (code_base + length code.bytes)) outer.0).0 in
+  word_found at word m e =
+      let outer = and_parts (nat_le code_base at && nat_le (at + 8) (code_base + length m.code)) (bytes_eq (take 8 (drop (at - code_base) m.code)) word) e in
+      let low : code_base ≤ at = leb-true code_base at (and_parts (nat_le code_base at) (nat_le (at + 8) (code_base + length m.code)) outer.0).0 in
       (at - code_base, omega arith, same_bytes_are _ word outer.1)
 
-  waited : (g : Gate) (at : ℕ) (common : Common) (mine yours : Apart) (s t : Registers) → Equal (entry_label (bits_of g)) s t → IsCommon code common → length mine.output ≡ length yours.output →
-      GatesAlike code size
-      (from_waiting at g s (memory_of size code.bytes common mine) (world_of common mine) (releasers_of common mine))
-      (from_waiting at g t (memory_of size code.bytes common yours) (world_of common yours) (releasers_of common yours))
-  unfolding stands_in_code
-  waited g at common mine yours s t equal is outputs =
-      not_found (stands_in_code (memory_of size code.bytes common mine) (return_word (result_bit g) common.visible.prefix) at) _ _
-      (λ found.
-      let w = word_found at (return_word (result_bit g) common.visible.prefix) common.public mine.segment found in
-      let e : Entered code g (at + 8) common mine yours s t = record {
-        place = w.0;
-        here = ap (λ (x : ℕ). x + 8) w.1;
-        stands = w.2 ∙ ap (λ (p : List ℕ). return_word (result_bit g) p) is.prefix_is;
-        equal = equal;
-        is_common = is;
-        outputs = outputs;
-      } in
-      let P : Option FaultKind → Type 0 = λ o. GatesAlike code size
-      (unless_refused (refusal size g (arguments_of s) (world_of common mine) (releasers_of common mine)) g (at + 8) s (memory_of size code.bytes common mine) (world_of common mine) (releasers_of common mine))
-      (unless_refused o g (at + 8) t (memory_of size code.bytes common yours) (world_of common yours) (releasers_of common yours)) in
-      subst P (refusals g size common mine yours s t equal outputs)
-      (after_refusals g (at + 8) common mine yours s t e (refusal size g (arguments_of s) (world_of common mine) (releasers_of common mine)))) fault.GateReturn
+  module _ (g : Gate) (two : Two) (s t : Registers) (equal : Equal (entry_label (bits_of g)) s t) (known : TwoAlike code size two) where
+    waited : (at : ℕ) →
+        GatesAlike code size
+        (from_waiting at g s (my_memory code.bytes two) (my_world two) (my_releasers two))
+        (from_waiting at g t (your_memory code.bytes two) (your_world two) (your_releasers two))
+    unfolding stands_in_code
+    waited at =
+        not_found (stands_in_code (my_memory code.bytes two) (return_word (result_bit g) two.common.visible.prefix) at) _ _
+        (λ found.
+        let w = word_found at (return_word (result_bit g) two.common.visible.prefix) (my_memory code.bytes two) found in
+        let e : Entered code size g (at + 8) two s t = record {
+          place = w.0;
+          here = ap (λ (x : ℕ). x + 8) w.1;
+          stands = w.2 ∙ ap (λ (p : List ℕ). return_word (result_bit g) p) known.prefix_is;
+          equal = equal;
+          known = known;
+        } in
+        let P : Option FaultKind → Type 0 = λ o. GatesAlike code size
+        (unless_refused (refusal two.common.size g (arguments_of s) (my_world two) (my_releasers two)) g (at + 8) s (my_memory code.bytes two) (my_world two) (my_releasers two))
+        (unless_refused o g (at + 8) t (your_memory code.bytes two) (your_world two) (your_releasers two)) in
+        subst P (refusals g two s t equal known.outputs)
+        (after_refusals (at + 8) two s t g e (refusal two.common.size g (arguments_of s) (my_world two) (my_releasers two)))) fault.GateReturn
 
-  -- THE LAW OF A GATE STEP
-  pub gates_step : (g : Gate) (common : Common) (mine yours : Apart) (s t : Registers) → Equal (entry_label (bits_of g)) s t → IsCommon code common → length mine.output ≡ length yours.output →
-      GatesAlike code size
-      (gate_step g s (memory_of size code.bytes common mine) (world_of common mine) (releasers_of common mine))
-      (gate_step g t (memory_of size code.bytes common yours) (world_of common yours) (releasers_of common yours))
-  unfolding gate_step
-  gates_step g common mine yours s t equal is outputs =
-      let P : ℕ → Type 0 = λ top. GatesAlike code size
-      (gate_step g s (memory_of size code.bytes common mine) (world_of common mine) (releasers_of common mine))
-      (cond (is_mapped size (top % 2 ^ 32) 4)
-      (from_waiting (little_endian (take 4 (drop (top % 2 ^ 32) common.public))) g t (memory_of size code.bytes common yours) (world_of common yours) (releasers_of common yours)) (faults fault.Memory)) in
-      subst P equal.stack
-      (not_found (is_mapped size (rsp_of s % 2 ^ 32) 4) _ _
-      (λ mapped. waited g (little_endian (take 4 (drop (rsp_of s % 2 ^ 32) common.public))) common mine yours s t equal is outputs) fault.Memory)
+    -- THE LAW OF A GATE STEP
+    pub gates_step :
+        GatesAlike code size
+        (gate_step g s (my_memory code.bytes two) (my_world two) (my_releasers two))
+        (gate_step g t (your_memory code.bytes two) (your_world two) (your_releasers two))
+    unfolding gate_step
+    gates_step =
+        let P : ℕ → Type 0 = λ top. GatesAlike code size
+        (gate_step g s (my_memory code.bytes two) (my_world two) (my_releasers two))
+        (cond (is_mapped two.common.size (top % 2 ^ 32) 4)
+        (from_waiting (little_endian (take 4 (drop (top % 2 ^ 32) two.common.public))) g t (your_memory code.bytes two) (your_world two) (your_releasers two)) (faults fault.Memory)) in
+        subst P equal.stack
+        (not_found (is_mapped two.common.size (rsp_of s % 2 ^ 32) 4) _ _
+        (λ mapped. waited (little_endian (take 4 (drop (rsp_of s % 2 ^ 32) two.common.public)))) fault.Memory)

@@ -9,7 +9,7 @@ use Rattle.code_sweep.specs.declared.item.Item.{Item}
 use Rattle.code_sweep.specs.declared.item.Item.TheVariants.{Call, Ret, Plain, ReturnUnit, CallUnit}
 use Rattle.code_sweep.specs.declared.item.Placed.{Placed}
 use Rattle.code_sweep.specs.Listing.{item_bytes, IsChain, StandsAt}
-use Rattle.taint_flow.specs.Flow.{address, address_after, Labelling, MeetsFlow}
+use Rattle.taint_flow.specs.Flow.{address, address_after, MeetsFlow}
 use Rattle.conf_verify.specs.declared.rule.Rule.{Rule}
 use Rattle.conf_verify.specs.declared.rule.Rule.TheVariants.{V10, V11, V12, V13, V14}
 use Rattle.conf_verify.specs.Rules.{is_word, is_call_word, may_end, IsLast, BreaksEnds, BreaksPrefix, BreaksReturns, BreaksJumps, BreaksCalls, BreaksUnder, FollowsCall, IsGoodTarget, procedure_of, item_breaks}
@@ -38,7 +38,7 @@ pub record Facts (code : LabelledCode) : Type 0 where
   pub flow : (rule : Rule) (place : ℕ) → BreaksUnder rule code.items code.labels place → ⊥
 
 -- an item of a chain stands at its place, with its length
-pub chain_item : (prefix code : List ℕ) (items : List Placed) (from to i : ℕ) (p : Placed) → IsChain prefix code items from to → slice_get items i ≡ Some p →
+chain_item : (prefix code : List ℕ) (items : List Placed) (from to i : ℕ) (p : Placed) → IsChain prefix code items from to → slice_get items i ≡ Some p →
     StandsAt prefix code p.at p.item × (p.len ≡ length (item_bytes prefix p.item))
 chain_item prefix code [] from to i p chain e = absurd (none-some p e)
 chain_item prefix code (q ∷ qs) from to zero p chain e =
@@ -48,8 +48,19 @@ chain_item prefix code (q ∷ qs) from to zero p chain e =
     subst P same (subst Q (sym chain.0) chain.2, chain.1)
 chain_item prefix code (q ∷ qs) from to (suc i) p chain e = chain_item prefix code qs (from + q.len) to i p chain.3 e
 
+pub item_stands : (code : LabelledCode) → Facts code → (i : ℕ) (p : Placed) → slice_get code.items i ≡ Some p →
+    StandsAt code.prefix code.bytes p.at p.item × (p.len ≡ length (item_bytes code.prefix p.item))
+item_stands code facts i p e = chain_item code.prefix code.bytes code.items 0 (length code.bytes) i p facts.listing e
+
+-- .. also where the item is known
+pub item_is : (code : LabelledCode) → Facts code → (i : ℕ) (p : Placed) (item : Item) → slice_get code.items i ≡ Some p → p.item ≡ item →
+    StandsAt code.prefix code.bytes p.at item × (p.len ≡ length (item_bytes code.prefix item))
+item_is code facts i p item e is =
+    let P : Item → Type 0 = λ x. StandsAt code.prefix code.bytes p.at x × (p.len ≡ length (item_bytes code.prefix x)) in
+    subst P is (item_stands code facts i p e)
+
 -- the item behind one begins where that one ends
-pub chain_next : (prefix code : List ℕ) (items : List Placed) (from to i : ℕ) (p q : Placed) → IsChain prefix code items from to →
+chain_next : (prefix code : List ℕ) (items : List Placed) (from to i : ℕ) (p q : Placed) → IsChain prefix code items from to →
     slice_get items i ≡ Some p → slice_get items (suc i) ≡ Some q → q.at ≡ p.at + p.len
 chain_next prefix code [] from to i p q chain e f = absurd (none-some p e)
 chain_next prefix code (a ∷ []) from to zero p q chain e f = absurd (none-some q f)
@@ -60,7 +71,7 @@ chain_next prefix code (a ∷ (b ∷ rest)) from to zero p q chain e f =
 chain_next prefix code (a ∷ rest) from to (suc i) p q chain e f = chain_next prefix code rest (from + a.len) to i p q chain.3 e f
 
 -- behind an item that isn't the last stands another
-pub item_behind : (items : List Placed) (i : ℕ) (p : Placed) → slice_get items i ≡ Some p → suc i ≢ length items → (q : Placed) × (slice_get items (suc i) ≡ Some q)
+item_behind : (items : List Placed) (i : ℕ) (p : Placed) → slice_get items i ≡ Some p → suc i ≢ length items → (q : Placed) × (slice_get items (suc i) ≡ Some q)
 item_behind items i p e inside = (get_or items (suc i) p, slice_get-get_or items (suc i) p (let h = slice_get_within items i p e in omega arith))
 
 -- the item behind one that may not end its procedure and is no call: it stands right behind and is no word
@@ -133,24 +144,24 @@ good_target items i target h =
     ]
 
 -- the test of a rule comes out false at an item
-pub kept : (items : List Placed) (labels : Labelling) (i : ℕ) (p : Placed) (rule : Rule) → slice_get items i ≡ Some p →
-    ((rule : Rule) (place : ℕ) → BreaksUnder rule items labels place → ⊥) → item_breaks rule (callee items p) p.item (labels i) ≡ false
-kept items labels i p rule stands flow =
-    false_from_ne_true (item_breaks rule (callee items p) p.item (labels i)) (λ h. flow rule p.at (i, p, stands, refl, h))
+pub kept : (code : LabelledCode) → Facts code → (i : ℕ) (p : Placed) (rule : Rule) → slice_get code.items i ≡ Some p →
+    item_breaks rule (callee code.items p) p.item (code.labels i) ≡ false
+kept code facts i p rule stands =
+    false_from_ne_true (item_breaks rule (callee code.items p) p.item (code.labels i)) (λ h. facts.flow rule p.at (i, p, stands, refl, h))
 
-kept_plain : (items : List Placed) (labels : Labelling) (i : ℕ) (p : Placed) (ins : Instr) (rule : Rule) → slice_get items i ≡ Some p → p.item ≡ Plain ins →
-    ((rule : Rule) (place : ℕ) → BreaksUnder rule items labels place → ⊥) → item_breaks rule (callee items p) (Plain ins) (labels i) ≡ false
-kept_plain items labels i p ins rule stands is flow =
-    ap (λ item. item_breaks rule (callee items p) item (labels i)) (sym is) ∙ kept items labels i p rule stands flow
+kept_plain : (code : LabelledCode) → Facts code → (i : ℕ) (p : Placed) (ins : Instr) (rule : Rule) → slice_get code.items i ≡ Some p → p.item ≡ Plain ins →
+    item_breaks rule (callee code.items p) (Plain ins) (code.labels i) ≡ false
+kept_plain code facts i p ins rule stands is =
+    ap (λ item. item_breaks rule (callee code.items p) item (code.labels i)) (sym is) ∙ kept code facts i p rule stands
 
-pub keeps_rules : (items : List Placed) (labels : Labelling) (i : ℕ) (p : Placed) (ins : Instr) → slice_get items i ≡ Some p → p.item ≡ Plain ins →
-    ((rule : Rule) (place : ℕ) → BreaksUnder rule items labels place → ⊥) → KeepsRules ins (labels i)
-keeps_rules items labels i p ins stands is flow = record {
-  address = kept_plain items labels i p ins V10 stands is flow;
-  stores = kept_plain items labels i p ins V11 stands is flow;
-  branches = kept_plain items labels i p ins V12 stands is flow;
-  divides = kept_plain items labels i p ins V13 stands is flow;
-  stack = kept_plain items labels i p ins V14 stands is flow;
+pub keeps_rules : (code : LabelledCode) → Facts code → (i : ℕ) (p : Placed) (ins : Instr) → slice_get code.items i ≡ Some p → p.item ≡ Plain ins →
+    KeepsRules ins (code.labels i)
+keeps_rules code facts i p ins stands is = record {
+  address = kept_plain code facts i p ins V10 stands is;
+  stores = kept_plain code facts i p ins V11 stands is;
+  branches = kept_plain code facts i p ins V12 stands is;
+  divides = kept_plain code facts i p ins V13 stands is;
+  stack = kept_plain code facts i p ins V14 stands is;
 }
 
 -- ---- words that stand in the code are items
@@ -224,7 +235,7 @@ pub call_at : (code : LabelledCode) → Facts code → (place bits : ℕ) → ta
     IsWordItem code.items (Call bits) place
 call_at code facts place bits stands =
     let w = word_at code facts place bits 0x11 stands in
-    let s = chain_item code.prefix code.bytes code.items 0 (length code.bytes) w.0 w.1 facts.listing w.2 in
+    let s = item_stands code facts w.0 w.1 w.2 in
     let same : take 8 (drop w.1.at code.bytes) ≡ bits ∷ (0x11 ∷ code.prefix) = ap (λ n. take 8 (drop n code.bytes)) w.4 ∙ stands in
     elim (item_word code.prefix code.bytes w.1.at bits w.1.item facts.six w.3 s.0) [
       | inl c ↦ record { j = w.0; q = w.1; stands = w.2; is = c.1 ∙ ap Call (first_cell c.0 0x11 bits 0x11 code.prefix code.prefix (sym c.2 ∙ same)); at = w.4 }
@@ -235,7 +246,7 @@ pub return_at : (code : LabelledCode) → Facts code → (place bit : ℕ) → t
     IsWordItem code.items (Ret bit) place
 return_at code facts place bit stands =
     let w = word_at code facts place bit 0x22 stands in
-    let s = chain_item code.prefix code.bytes code.items 0 (length code.bytes) w.0 w.1 facts.listing w.2 in
+    let s = item_stands code facts w.0 w.1 w.2 in
     let same : take 8 (drop w.1.at code.bytes) ≡ bit ∷ (0x22 ∷ code.prefix) = ap (λ n. take 8 (drop n code.bytes)) w.4 ∙ stands in
     elim (item_word code.prefix code.bytes w.1.at bit w.1.item facts.six w.3 s.0) [
       | inl c ↦ absurd (kinds_differ 0x11 0x22 refl refl (second_cell c.0 0x11 bit 0x22 code.prefix code.prefix (sym c.2 ∙ same)))
@@ -253,7 +264,7 @@ eight_of prefix (CallUnit r bits) six e = absurd (true≢false (sym e))
 
 pub word_length : (code : LabelledCode) → Facts code → (j : ℕ) (q : Placed) → slice_get code.items j ≡ Some q → is_word q.item ≡ true → q.len ≡ 8
 word_length code facts j q e word =
-    (chain_item code.prefix code.bytes code.items 0 (length code.bytes) j q facts.listing e).1 ∙ eight_of code.prefix q.item facts.six word
+    (item_stands code facts j q e).1 ∙ eight_of code.prefix q.item facts.six word
 
 -- ---- what a direct call names
 

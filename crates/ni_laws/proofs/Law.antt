@@ -147,6 +147,7 @@ fresh_bytes (Some (Some tape)) are = are tape refl
 -- what two starts have in common, and what they may differ in
 abbrev common_of : Image → Shared → Common
 common_of image shared = record {
+  size = image.seg_size;
   public = padded first_mapped image.seg_size image.public;
   visible = (start_world image shared.public_input []).visible;
   held = (start_releasers shared.tapes).held;
@@ -155,6 +156,7 @@ common_of image shared = record {
 
 abbrev apart_of : Image → Secret → Apart
 apart_of image secret = record {
+  cores = start_cores image 0 image.entries;
   segment = padded first_mapped image.seg_size (items_at secret.segment 0 (image.seg_size - first_mapped));
   input = secret.private_input;
   output = [];
@@ -170,10 +172,13 @@ law_of_image image accepted good has shared mine yours schedule =
     let cores = start_cores_alike (accepted_code image accepted) facts image 0 image.entries entry_follows in
     same_view (accepted_code image accepted) image.seg_size _ _
     (run_alike (accepted_code image accepted) facts image.seg_size schedule _ _
-    (agree (start_cores image 0 image.entries) (start_cores image 0 image.entries) (common_of image shared) (apart_of image mine) (apart_of image yours) Running cores
+    (agree (record { common = common_of image shared; mine = apart_of image mine; yours = apart_of image yours }) Running
     (record {
+      size_is = refl;
+      cores = cores;
       public = padded_bytes first_mapped image.seg_size image.public has.public;
       prefix_is = refl;
       input = shared.input_bytes;
       tapes = λ class. fresh_bytes (slice_get shared.tapes class) (λ tape is. shared.tape_bytes class tape is);
-    }) refl))
+      outputs = refl;
+    })))

@@ -1,5 +1,6 @@
 mod Bytes
 mod Registers
+mod Sides
 mod Rows
 mod Items
 mod Units

@@ -25,10 +25,11 @@ use Rattle.cv_word.specs.GateStep.{GateEffect, ends_core, exits, runs_out}
 use Rattle.cv_word.specs.MemoryMap.{code_base}
 use Rattle.cv_word.specs.declared.gates.Gate.{Gate}
 use Rattle.x64_machine.specs.Run.{Core, Configuration, after_step, after_gate, after_core_end, outcome_of_ended, step_at, step_core, step, run, View, view, position_of}
-use Rattle.ni_laws.specs.Agreement.{LabelledCode, CoreAlike, CoresAlike, Standing, at_item, at_raise, at_stage, at_gate, Common, Apart, memory_of, IsCommon, config, Agree, agree}
+use Rattle.ni_laws.specs.Agreement.{LabelledCode, CoreAlike, CoresAlike, Standing, at_item, at_raise, at_stage, at_gate, Common, Two, TwoAlike, config, Agree, agree}
 use Rattle.ni_laws.proofs.Bytes.{spliced_bytes}
+use Rattle.ni_laws.proofs.Sides.{my_memory, apart, set_apart}
 use Rattle.ni_laws.proofs.Items.{Facts}
-use Rattle.ni_laws.proofs.Checks.{StepsAlike, both_step, same_fault}
+use Rattle.ni_laws.proofs.Checks.{StepsAlike, both_step, same_fault, BothStep}
 use Rattle.ni_laws.proofs.GateSteps.{GatesAlike, both_return, both_stop, both_refuse, gates_step}
 use Rattle.ni_laws.proofs.Steps.{item_alike, raise_alike, stage_alike}
 use Rattle.x64_machine.proofs.StepLemmas.{no_gate_above}
@@ -154,118 +155,112 @@ ended_outcomes : (code : LabelledCode) (cs ds : List Core) → CoresAlike code c
 ended_outcomes code cs ds a =
     ap (λ (b : Bool). cond b (outcome.Exited (pos 0)) outcome.Running) (ended_alike code cs ds a)
 
-module _ (code : LabelledCode) (size : ℕ) where
-  -- what an instruction leaves
-  after_alike : (cs ds : List Core) (common : Common) (mine yours : Apart) (o : Outcome) (i : ℕ) (c d : Core) (e f : Effect) →
-      CoresAlike code cs ds → IsCommon code common → length mine.output ≡ length yours.output → LeavesBytes e → c.ended ≡ d.ended →
-      c.registers.pc ≡ d.registers.pc → StepsAlike code size e f →
-      Agree code size (after_step e i c (config size code cs common mine o)) (after_step f i d (config size code ds common yours o))
-  after_alike cs ds common mine yours o i c d e f a is outputs left ended pcs (both_step s t public' mine' yours' counters standing) =
-      agree _ _ (record common { public = public' }) (record mine { segment = mine' }) (record yours { segment = yours' }) o
-      (alike_set code cs ds i _ _ a (record { ended = ended; counters = counters; standing = λ h. standing }))
-      (record { public = left; prefix_is = is.prefix_is; input = is.input; tapes = is.tapes }) outputs
-  after_alike cs ds common mine yours o i c d e f a is outputs left ended pcs (same_fault kind) =
-      let P : ℕ → Type 0 = λ pc. Agree code size
-      (config size code cs common mine (outcome.Fault i c.registers.pc kind)) (config size code ds common yours (outcome.Fault i pc kind)) in
-      subst P pcs (agree cs ds common mine yours (outcome.Fault i c.registers.pc kind) a is outputs)
+-- two configurations with other cores
+abbrev with_cores : List Core → List Core → Two → Two
+with_cores cs ds two = apart (record two.mine { cores = cs }) (record two.yours { cores = ds }) two
 
-  -- what a core that ends leaves
-  core_end_alike : (cs ds : List Core) (common : Common) (mine yours : Apart) (o : Outcome) (i : ℕ) (c d : Core) →
-      CoresAlike code cs ds → IsCommon code common → length mine.output ≡ length yours.output → c.registers.pc ≡ d.registers.pc →
-      Agree code size (after_core_end i c (config size code cs common mine o)) (after_core_end i d (config size code ds common yours o))
-  core_end_alike cs ds common mine yours o i c d a is outputs pcs =
-      let ended : Core → Core = λ core. record core { ended = true } in
-      let cs' : List Core = slice_set cs i (ended c) in
-      let ds' : List Core = slice_set ds i (ended d) in
-      let a' : CoresAlike code cs' ds' =
-      alike_set code cs ds i (ended c) (ended d) a (record { ended = refl; counters = pcs; standing = λ h. absurd (true≢false h) }) in
-      let P : Outcome → Type 0 = λ x. Agree code size
-      (config size code cs' common mine (outcome_of_ended cs')) (config size code ds' common yours x) in
-      subst P (ended_outcomes code cs' ds' a') (agree cs' ds' common mine yours (outcome_of_ended cs') a' is outputs)
+abbrev my_config : LabelledCode → Two → Outcome → Configuration
+my_config code two o = config code two.common two.mine o
 
-  -- what a gate step leaves
-  after_gates : (cs ds : List Core) (common : Common) (mine yours : Apart) (o : Outcome) (i : ℕ) (c d : Core) (e f : GateEffect) →
-      CoresAlike code cs ds → IsCommon code common → length mine.output ≡ length yours.output → c.ended ≡ d.ended →
-      c.registers.pc ≡ d.registers.pc → GatesAlike code size e f →
-      Agree code size (after_gate e i c (config size code cs common mine o)) (after_gate f i d (config size code ds common yours o))
-  after_gates cs ds common mine yours o i c d e f a is outputs ended pcs (both_return s t later mine' yours' counters standing is' outputs') =
-      agree _ _ later mine' yours' o
-      (alike_set code cs ds i _ _ a (record { ended = ended; counters = counters; standing = λ h. standing })) is' outputs'
-  after_gates cs ds common mine yours o i c d e f a is outputs ended pcs (both_stop ends_core) =
-      core_end_alike cs ds common mine yours o i c d a is outputs pcs
-  after_gates cs ds common mine yours o i c d e f a is outputs ended pcs (both_stop (exits status)) =
-      agree cs ds common mine yours (outcome.Exited status) a is outputs
-  after_gates cs ds common mine yours o i c d e f a is outputs ended pcs (both_stop (runs_out class)) =
-      let P : ℕ → Type 0 = λ pc. Agree code size
-      (config size code cs common mine (outcome.Tape i c.registers.pc class)) (config size code ds common yours (outcome.Tape i pc class)) in
-      subst P pcs (agree cs ds common mine yours (outcome.Tape i c.registers.pc class) a is outputs)
-  after_gates cs ds common mine yours o i c d e f a is outputs ended pcs (both_refuse kind) =
-      let P : ℕ → Type 0 = λ pc. Agree code size
-      (config size code cs common mine (outcome.Fault i c.registers.pc kind)) (config size code ds common yours (outcome.Fault i pc kind)) in
-      subst P pcs (agree cs ds common mine yours (outcome.Fault i c.registers.pc kind) a is outputs)
+abbrev your_config : LabelledCode → Two → Outcome → Configuration
+your_config code two o = config code two.common two.yours o
 
-  -- at an item or in a unit, which are in the code, an instruction takes effect
-  in_code : (cs ds : List Core) (common : Common) (mine yours : Apart) (o : Outcome) (i : ℕ) (c d : Core) →
-      CoresAlike code cs ds → IsCommon code common → length mine.output ≡ length yours.output → c.ended ≡ d.ended →
-      c.registers.pc ≡ d.registers.pc → code_base ≤ c.registers.pc →
-      StepsAlike code size (core_step (memory_of size code.bytes common mine) c.registers) (core_step (memory_of size code.bytes common yours) d.registers) →
-      Agree code size
-      (step_at (gate_at c.registers.pc) i c (config size code cs common mine o)) (step_at (gate_at d.registers.pc) i d (config size code ds common yours o))
-  in_code cs ds common mine yours o i c d a is outputs ended pcs high steps =
-      let P : Option Gate → Type 0 = λ g. Agree code size
-      (step_at g i c (config size code cs common mine o)) (step_at (gate_at d.registers.pc) i d (config size code ds common yours o)) in
-      let Q : Option Gate → Type 0 = λ g. Agree code size
-      (step_at None i c (config size code cs common mine o)) (step_at g i d (config size code ds common yours o)) in
-      let none : gate_at c.registers.pc ≡ None = no_gate_above c.registers.pc high in
-      subst P (sym none) (subst Q (sym none ∙ ap (λ (x : ℕ). gate_at x) pcs)
-      (after_alike cs ds common mine yours o i c d _ _ a is outputs (step_bytes (memory_of size code.bytes common mine) c.registers is.public) ended pcs steps))
+module _ (code : LabelledCode) (size : ℕ) (two : Two) (known : TwoAlike code size two) (o : Outcome) where
+  -- they agree with any cores that are alike, and with any outcome
+  cores_agree : (cs ds : List Core) (o' : Outcome) → CoresAlike code cs ds → Agree code size (my_config code (with_cores cs ds two) o') (your_config code (with_cores cs ds two) o')
+  cores_agree cs ds o' cores =
+      agree (with_cores cs ds two) o' (set_apart code size two (record two.mine { cores = cs }) (record two.yours { cores = ds }) known cores known.outputs)
 
-  module _ (facts : Facts code) where
-    -- a core of each that runs, wherever they stand
-    stands_alike : (cs ds : List Core) (common : Common) (mine yours : Apart) (o : Outcome) (i : ℕ) (c d : Core) →
-        CoresAlike code cs ds → IsCommon code common → length mine.output ≡ length yours.output → c.ended ≡ d.ended →
-        c.registers.pc ≡ d.registers.pc → Standing code c.registers d.registers →
-        Agree code size
-        (step_at (gate_at c.registers.pc) i c (config size code cs common mine o)) (step_at (gate_at d.registers.pc) i d (config size code ds common yours o))
-    stands_alike cs ds common mine yours o i c d a is outputs ended pcs (at_item x) =
-        in_code cs ds common mine yours o i c d a is outputs ended pcs (omega (arith, x.here))
-        (item_alike code facts size common.public mine.segment yours.segment c.registers d.registers is.public x)
-    stands_alike cs ds common mine yours o i c d a is outputs ended pcs (at_raise x) =
-        in_code cs ds common mine yours o i c d a is outputs ended pcs (omega (arith, x.here))
-        (raise_alike code facts size common.public mine.segment yours.segment c.registers d.registers x)
-    stands_alike cs ds common mine yours o i c d a is outputs ended pcs (at_stage stage x) =
-        in_code cs ds common mine yours o i c d a is outputs ended pcs (omega (arith, x.here))
-        (stage_alike code facts size common.public mine.segment yours.segment c.registers d.registers stage x)
-    stands_alike cs ds common mine yours o i c d a is outputs ended pcs (at_gate x) =
+  module _ (i : ℕ) (c d : Core) (ended : c.ended ≡ d.ended) (pcs : c.registers.pc ≡ d.registers.pc) where
+    -- what an instruction leaves
+    after_alike : (e f : Effect) → LeavesBytes e → StepsAlike code two.common.size e f →
+        Agree code size (after_step e i c (my_config code two o)) (after_step f i d (your_config code two o))
+    after_alike e f left (both_step s t public' mine' yours' counters standing) =
+        agree _ o
+        (record {
+          size_is = known.size_is;
+          cores = alike_set code two.mine.cores two.yours.cores i _ _ known.cores (record { ended = ended; counters = counters; standing = λ h. standing });
+          public = left;
+          prefix_is = known.prefix_is;
+          input = known.input;
+          tapes = known.tapes;
+          outputs = known.outputs;
+        })
+    after_alike e f left (same_fault kind) =
+        let P : ℕ → Type 0 = λ pc. Agree code size
+        (my_config code two (outcome.Fault i c.registers.pc kind)) (your_config code two (outcome.Fault i pc kind)) in
+        subst P pcs (agree two (outcome.Fault i c.registers.pc kind) known)
+
+    -- what a core that ends leaves
+    core_end_alike : Agree code size (after_core_end i c (my_config code two o)) (after_core_end i d (your_config code two o))
+    core_end_alike =
+        let ended : Core → Core = λ core. record core { ended = true } in
+        let cs : List Core = slice_set two.mine.cores i (ended c) in
+        let ds : List Core = slice_set two.yours.cores i (ended d) in
+        let a : CoresAlike code cs ds =
+        alike_set code two.mine.cores two.yours.cores i (ended c) (ended d) known.cores (record { ended = refl; counters = pcs; standing = λ h. absurd (true≢false h) }) in
+        let P : Outcome → Type 0 = λ x. Agree code size
+        (my_config code (with_cores cs ds two) (outcome_of_ended cs)) (your_config code (with_cores cs ds two) x) in
+        subst P (ended_outcomes code cs ds a) (cores_agree cs ds (outcome_of_ended cs) a)
+
+    -- what a gate step leaves
+    after_gates : (e f : GateEffect) → GatesAlike code size e f →
+        Agree code size (after_gate e i c (my_config code two o)) (after_gate f i d (your_config code two o))
+    after_gates e f (both_return s t later counters standing known') =
+        let a = alike_set code two.mine.cores two.yours.cores i _ _ known.cores (record { ended = ended; counters = counters; standing = λ h. standing }) in
+        agree _ o (set_apart code size later (record later.mine { cores = _ }) (record later.yours { cores = _ }) known' a known'.outputs)
+    after_gates e f (both_stop ends_core) = core_end_alike
+    after_gates e f (both_stop (exits status)) = agree two (outcome.Exited status) known
+    after_gates e f (both_stop (runs_out class)) =
+        let P : ℕ → Type 0 = λ pc. Agree code size
+        (my_config code two (outcome.Tape i c.registers.pc class)) (your_config code two (outcome.Tape i pc class)) in
+        subst P pcs (agree two (outcome.Tape i c.registers.pc class) known)
+    after_gates e f (both_refuse kind) =
+        let P : ℕ → Type 0 = λ pc. Agree code size
+        (my_config code two (outcome.Fault i c.registers.pc kind)) (your_config code two (outcome.Fault i pc kind)) in
+        subst P pcs (agree two (outcome.Fault i c.registers.pc kind) known)
+
+    -- at an item or in a unit, which are in the code, an instruction takes effect
+    in_code : code_base ≤ c.registers.pc → BothStep code two c.registers d.registers →
+        Agree code size (step_at (gate_at c.registers.pc) i c (my_config code two o)) (step_at (gate_at d.registers.pc) i d (your_config code two o))
+    in_code high steps =
         let P : Option Gate → Type 0 = λ g. Agree code size
-        (step_at g i c (config size code cs common mine o)) (step_at (gate_at d.registers.pc) i d (config size code ds common yours o)) in
+        (step_at g i c (my_config code two o)) (step_at (gate_at d.registers.pc) i d (your_config code two o)) in
         let Q : Option Gate → Type 0 = λ g. Agree code size
-        (step_at (Some x.gate) i c (config size code cs common mine o)) (step_at g i d (config size code ds common yours o)) in
-        subst P (sym x.here) (subst Q (sym x.here ∙ ap (λ (n : ℕ). gate_at n) pcs)
-        (after_gates cs ds common mine yours o i c d _ _ a is outputs ended pcs
-        (gates_step code facts size x.gate common mine yours c.registers d.registers x.equal is outputs)))
+        (step_at None i c (my_config code two o)) (step_at g i d (your_config code two o)) in
+        let none : gate_at c.registers.pc ≡ None = no_gate_above c.registers.pc high in
+        subst P (sym none) (subst Q (sym none ∙ ap (λ (x : ℕ). gate_at x) pcs)
+        (after_alike _ _ (step_bytes (my_memory code.bytes two) c.registers known.public) steps))
 
-    core_steps : (cs ds : List Core) (common : Common) (mine yours : Apart) (o : Outcome) (i : ℕ) (oc od : Option Core) →
-        CoresAlike code cs ds → IsCommon code common → length mine.output ≡ length yours.output → PairAlike code oc od →
-        Agree code size
-        (step_core oc i (config size code cs common mine o)) (step_core od i (config size code ds common yours o))
-    core_steps cs ds common mine yours o i oc od a is outputs no_core = agree cs ds common mine yours o a is outputs
-    core_steps cs ds common mine yours o i oc od a is outputs (both_cores c d pair) =
-        unless code size c.ended d.ended _ _ _ _ pair.ended (agree cs ds common mine yours o a is outputs)
-        (λ runs. stands_alike cs ds common mine yours o i c d a is outputs pair.ended pair.counters (pair.standing runs))
+    -- a core of each that runs, wherever they stand
+    stands_alike : Facts code → Standing code c.registers d.registers →
+        Agree code size (step_at (gate_at c.registers.pc) i c (my_config code two o)) (step_at (gate_at d.registers.pc) i d (your_config code two o))
+    stands_alike facts (at_item x) = in_code (omega (arith, x.here)) (item_alike code facts two c.registers d.registers known.public x)
+    stands_alike facts (at_raise x) = in_code (omega (arith, x.here)) (raise_alike code facts two c.registers d.registers x)
+    stands_alike facts (at_stage stage x) = in_code (omega (arith, x.here)) (stage_alike code facts two c.registers d.registers stage x)
+    stands_alike facts (at_gate x) =
+        let P : Option Gate → Type 0 = λ g. Agree code size
+        (step_at g i c (my_config code two o)) (step_at (gate_at d.registers.pc) i d (your_config code two o)) in
+        let Q : Option Gate → Type 0 = λ g. Agree code size
+        (step_at (Some x.gate) i c (my_config code two o)) (step_at g i d (your_config code two o)) in
+        subst P (sym x.here) (subst Q (sym x.here ∙ ap (λ (n : ℕ). gate_at n) pcs)
+        (after_gates _ _ (gates_step code facts size x.gate two c.registers d.registers x.equal known)))
+
+  core_steps : Facts code → (i : ℕ) (oc od : Option Core) → PairAlike code oc od →
+      Agree code size (step_core oc i (my_config code two o)) (step_core od i (your_config code two o))
+  core_steps facts i oc od no_core = agree two o known
+  core_steps facts i oc od (both_cores c d pair) =
+      unless code size c.ended d.ended _ _ _ _ pair.ended (agree two o known)
+      (λ runs. stands_alike i c d pair.ended pair.counters facts (pair.standing runs))
 
 -- THE LAW OF ONE STEP
-pub step_alike : (code : LabelledCode) → Facts code → (size i : ℕ) (c d : Configuration) →
-    Agree code size c d → Agree code size (step i c) (step i d)
+pub step_alike : (code : LabelledCode) → Facts code → (size i : ℕ) (c d : Configuration) → Agree code size c d → Agree code size (step i c) (step i d)
 unfolding step
-step_alike code facts size i c d (agree cs ds common mine yours outcome.Running a is outputs) =
-    core_steps code size facts cs ds common mine yours outcome.Running i _ _ a is outputs (pair_at code cs ds i a)
-step_alike code facts size i c d (agree cs ds common mine yours (outcome.Exited status) a is outputs) =
-    agree cs ds common mine yours (outcome.Exited status) a is outputs
-step_alike code facts size i c d (agree cs ds common mine yours (outcome.Fault core at kind) a is outputs) =
-    agree cs ds common mine yours (outcome.Fault core at kind) a is outputs
-step_alike code facts size i c d (agree cs ds common mine yours (outcome.Tape core at class) a is outputs) =
-    agree cs ds common mine yours (outcome.Tape core at class) a is outputs
+step_alike code facts size i c d (agree two outcome.Running known) =
+    core_steps code size two known outcome.Running facts i _ _ (pair_at code two.mine.cores two.yours.cores i known.cores)
+step_alike code facts size i c d (agree two (outcome.Exited status) known) = agree two (outcome.Exited status) known
+step_alike code facts size i c d (agree two (outcome.Fault core at kind) known) = agree two (outcome.Fault core at kind) known
+step_alike code facts size i c d (agree two (outcome.Tape core at class) known) = agree two (outcome.Tape core at class) known
 
 -- a whole run
 pub run_alike : (code : LabelledCode) → Facts code → (size : ℕ) (schedule : List ℕ) (c d : Configuration) →
@@ -306,8 +301,10 @@ viewed common o ended counters count = record {
 }
 
 pub same_view : (code : LabelledCode) (size : ℕ) (c d : Configuration) → Agree code size c d → view c ≡ view d
-same_view code size c d (agree cs ds common mine yours o a is outputs) =
-    let x = same_ended code cs ds a in let y = same_counters code cs ds a in
-    ap (λ (ended : List Bool). viewed common o ended (map (λ (core : Core). core.registers.pc) cs) (length mine.output)) x
-    ∙ ap (λ (counters : List ℕ). viewed common o (map (λ (core : Core). core.ended) ds) counters (length mine.output)) y
-    ∙ ap (λ (n : ℕ). viewed common o (map (λ (core : Core). core.ended) ds) (map (λ (core : Core). core.registers.pc) ds) n) outputs
+same_view code size c d (agree two o known) =
+    let cs : List Core = two.mine.cores in
+    let ds : List Core = two.yours.cores in
+    let x = same_ended code cs ds known.cores in let y = same_counters code cs ds known.cores in
+    ap (λ (ended : List Bool). viewed two.common o ended (map (λ (core : Core). core.registers.pc) cs) (length two.mine.output)) x
+    ∙ ap (λ (counters : List ℕ). viewed two.common o (map (λ (core : Core). core.ended) ds) counters (length two.mine.output)) y
+    ∙ ap (λ (n : ℕ). viewed two.common o (map (λ (core : Core). core.ended) ds) (map (λ (core : Core). core.registers.pc) ds) n) known.outputs

@@ -19,7 +19,9 @@ use Rattle.code_sweep.specs.Units.{inverse, check_tail, check_then, return_unit,
 use Rattle.code_sweep.specs.declared.item.Item.{Item}
 use Rattle.code_sweep.specs.declared.item.Item.TheVariants.{Call, Ret, Plain, ReturnUnit, CallUnit}
 use Rattle.code_sweep.specs.Listing.{item_bytes, StandsAt}
-use Rattle.ni_laws.specs.Agreement.{check_of}
+use Rattle.cv_word.specs.declared.registers.Registers.{Registers}
+use Rattle.ni_laws.specs.Agreement.{LabelledCode, check_of, Stage, AtStage}
+use Rattle.ni_laws.proofs.Items.{Facts, item_stands}
 use Rattle.ni_laws.proofs.Bytes.{inverse_bytes, eight_again, eight_small, cons_bytes}
 
 -- the front of a list dropped
@@ -109,60 +111,60 @@ last_of (CallUnit r bits) = CallR10
 last_of _ = JmpR10
 
 -- the check of a unit, and the word that it looks for
-pub record UnitAt (prefix code : List ℕ) (place : ℕ) (item : Item) (start : ℕ) (word : List ℕ) : Type 0 where
+pub record UnitAt (code : LabelledCode) (place : ℕ) (item : Item) (start : ℕ) (word : List ℕ) : Type 0 where
   pub long : length word ≡ 8
   pub bytes : AreBytes word
-  pub check : CheckAt code (place + start) word (last_of item)
+  pub check : CheckAt code.bytes (place + start) word (last_of item)
 
 unit_whole : (code unit : List ℕ) (place : ℕ) → take (length unit) (drop place code) ≡ unit → drop place code ≡ unit ++ drop (length unit) (drop place code)
 unit_whole code unit place e =
     sym (take-append-drop (length unit) (drop place code)) ∙ ap (λ l. l ++ drop (length unit) (drop place code)) e
 
 -- a return unit begins with the load of r10 and the addition to rsp
-pub record ReturnAt (prefix code : List ℕ) (place bit : ℕ) : Type 0 where
+pub record ReturnAt (code : LabelledCode) (place bit : ℕ) : Type 0 where
   pub small : bit < 2
-  pub first : instruction_at (drop place code) ≡ Some (Load false Gpr10 (record { seg = Fs; base = Rsp; disp = pos 0 }))
-  pub second : instruction_at (drop (place + 10) code) ≡ Some (AluImm alu.Add Rsp (pos 8))
-  pub unit : UnitAt prefix code place (ReturnUnit bit) 17 (return_word bit prefix)
+  pub first : instruction_at (drop place code.bytes) ≡ Some (Load false Gpr10 (record { seg = Fs; base = Rsp; disp = pos 0 }))
+  pub second : instruction_at (drop (place + 10) code.bytes) ≡ Some (AluImm alu.Add Rsp (pos 8))
+  pub unit : UnitAt code place (ReturnUnit bit) 17 (return_word bit code.prefix)
 
-pub return_parts : (prefix code : List ℕ) (place bit : ℕ) → length prefix ≡ 6 → AreBytes prefix → StandsAt prefix code place (ReturnUnit bit) → ReturnAt prefix code place bit
+pub return_parts : (code : LabelledCode) → Facts code → (place bit : ℕ) → StandsAt code.prefix code.bytes place (ReturnUnit bit) → ReturnAt code place bit
 unfolding item_bytes spelling
-return_parts prefix code place bit six bytes s =
-    let rest : List ℕ = drop (length (return_unit prefix bit)) (drop place code) in
-    let e0 : drop place code ≡ return_unit prefix bit ++ rest = unit_whole code (return_unit prefix bit) place s.is.1.1 in
-    let e1 : drop (place + 10) code ≡ drop 10 (return_unit prefix bit) ++ rest =
-    rest_at code place 10 (Load false Gpr10 (record { seg = Fs; base = Rsp; disp = pos 0 })) (drop 10 (return_unit prefix bit) ++ rest) refl e0 in
-    let e2 : drop (place + 17) code ≡ check_then (return_word bit prefix) 0xe2 ++ rest =
-    step code (place + 10) (place + 17) 7 (AluImm alu.Add Rsp (pos 8)) (check_then (return_word bit prefix) 0xe2 ++ rest) (omega arith) refl e1 in
+return_parts code facts place bit s =
+    let rest : List ℕ = drop (length (return_unit code.prefix bit)) (drop place code.bytes) in
+    let e0 : drop place code.bytes ≡ return_unit code.prefix bit ++ rest = unit_whole code.bytes (return_unit code.prefix bit) place s.is.1.1 in
+    let e1 : drop (place + 10) code.bytes ≡ drop 10 (return_unit code.prefix bit) ++ rest =
+    rest_at code.bytes place 10 (Load false Gpr10 (record { seg = Fs; base = Rsp; disp = pos 0 })) (drop 10 (return_unit code.prefix bit) ++ rest) refl e0 in
+    let e2 : drop (place + 17) code.bytes ≡ check_then (return_word bit code.prefix) 0xe2 ++ rest =
+    step code.bytes (place + 10) (place + 17) 7 (AluImm alu.Add Rsp (pos 8)) (check_then (return_word bit code.prefix) 0xe2 ++ rest) (omega arith) refl e1 in
     record {
       small = s.is.1.0;
-      first = spelled_at code place (Load false Gpr10 (record { seg = Fs; base = Rsp; disp = pos 0 })) (drop 10 (return_unit prefix bit) ++ rest) (search rules) e0;
-      second = spelled_at code (place + 10) (AluImm alu.Add Rsp (pos 8)) (check_then (return_word bit prefix) 0xe2 ++ rest) (search rules) e1;
+      first = spelled_at code.bytes place (Load false Gpr10 (record { seg = Fs; base = Rsp; disp = pos 0 })) (drop 10 (return_unit code.prefix bit) ++ rest) (search rules) e0;
+      second = spelled_at code.bytes (place + 10) (AluImm alu.Add Rsp (pos 8)) (check_then (return_word bit code.prefix) 0xe2 ++ rest) (search rules) e1;
       unit = record {
-        long = let n : suc (suc (length prefix)) ≡ 8 = omega arith in n;
-        bytes = cons_bytes bit (0x22 ∷ prefix) (let b : bit < 2 = s.is.1.0 in omega arith) (cons_bytes 0x22 prefix (omega arith) bytes);
-        check = check_at code (place + 17) (return_word bit prefix) JmpR10 0xe2 rest (let n : suc (suc (length prefix)) ≡ 8 = omega arith in n) jump_ends e2;
+        long = let n : suc (suc (length code.prefix)) ≡ 8 = omega (arith, facts.six) in n;
+        bytes = cons_bytes bit (0x22 ∷ code.prefix) (let b : bit < 2 = s.is.1.0 in omega arith) (cons_bytes 0x22 code.prefix (omega arith) facts.prefix_bytes);
+        check = check_at code.bytes (place + 17) (return_word bit code.prefix) JmpR10 0xe2 rest (let n : suc (suc (length code.prefix)) ≡ 8 = omega (arith, facts.six) in n) jump_ends e2;
       };
     }
 
 -- a call unit begins with the move of the register's low half to r10
-pub record CallAt (prefix code : List ℕ) (place : ℕ) (r : Reg) (bits : ℕ) : Type 0 where
-  pub first : instruction_at (drop place code) ≡ Some (Mov false Gpr10 r)
-  pub unit : UnitAt prefix code place (CallUnit r bits) 3 (call_word bits prefix)
+pub record CallAt (code : LabelledCode) (place : ℕ) (r : Reg) (bits : ℕ) : Type 0 where
+  pub first : instruction_at (drop place code.bytes) ≡ Some (Mov false Gpr10 r)
+  pub unit : UnitAt code place (CallUnit r bits) 3 (call_word bits code.prefix)
 
-pub call_parts : (prefix code : List ℕ) (place : ℕ) (r : Reg) (bits : ℕ) → length prefix ≡ 6 → AreBytes prefix → StandsAt prefix code place (CallUnit r bits) → CallAt prefix code place r bits
+pub call_parts : (code : LabelledCode) → Facts code → (place : ℕ) (r : Reg) (bits : ℕ) → StandsAt code.prefix code.bytes place (CallUnit r bits) → CallAt code place r bits
 unfolding item_bytes spelling
-call_parts prefix code place r bits six bytes s =
-    let rest : List ℕ = drop (length (call_unit prefix r bits)) (drop place code) in
-    let e0 : drop place code ≡ call_unit prefix r bits ++ rest = unit_whole code (call_unit prefix r bits) place s.is.2.1 in
-    let e1 : drop (place + 3) code ≡ check_then (call_word bits prefix) 0xd2 ++ rest =
-    rest_at code place 3 (Mov false Gpr10 r) (check_then (call_word bits prefix) 0xd2 ++ rest) refl e0 in
+call_parts code facts place r bits s =
+    let rest : List ℕ = drop (length (call_unit code.prefix r bits)) (drop place code.bytes) in
+    let e0 : drop place code.bytes ≡ call_unit code.prefix r bits ++ rest = unit_whole code.bytes (call_unit code.prefix r bits) place s.is.2.1 in
+    let e1 : drop (place + 3) code.bytes ≡ check_then (call_word bits code.prefix) 0xd2 ++ rest =
+    rest_at code.bytes place 3 (Mov false Gpr10 r) (check_then (call_word bits code.prefix) 0xd2 ++ rest) refl e0 in
     record {
-      first = spelled_at code place (Mov false Gpr10 r) (check_then (call_word bits prefix) 0xd2 ++ rest) tt e0;
+      first = spelled_at code.bytes place (Mov false Gpr10 r) (check_then (call_word bits code.prefix) 0xd2 ++ rest) tt e0;
       unit = record {
-        long = let n : suc (suc (length prefix)) ≡ 8 = omega arith in n;
-        bytes = cons_bytes bits (0x11 ∷ prefix) (let b : bits < 32 = s.is.2.0 in omega arith) (cons_bytes 0x11 prefix (omega arith) bytes);
-        check = check_at code (place + 3) (call_word bits prefix) CallR10 0xd2 rest (let n : suc (suc (length prefix)) ≡ 8 = omega arith in n) call_ends e1;
+        long = let n : suc (suc (length code.prefix)) ≡ 8 = omega (arith, facts.six) in n;
+        bytes = cons_bytes bits (0x11 ∷ code.prefix) (let b : bits < 32 = s.is.2.0 in omega arith) (cons_bytes 0x11 code.prefix (omega arith) facts.prefix_bytes);
+        check = check_at code.bytes (place + 3) (call_word bits code.prefix) CallR10 0xd2 rest (let n : suc (suc (length code.prefix)) ≡ 8 = omega (arith, facts.six) in n) call_ends e1;
       };
     }
 
@@ -175,16 +177,20 @@ some_pair a c b d e =
     (ap (λ (q : ℕ × List ℕ). q.0) p, ap (λ (q : ℕ × List ℕ). q.1) p)
 
 -- the unit at an item whose check is known
-pub unit_at : (prefix code : List ℕ) (place : ℕ) (item : Item) (start : ℕ) (word : List ℕ) → length prefix ≡ 6 → AreBytes prefix → StandsAt prefix code place item →
-    check_of prefix item ≡ Some (start, word) → UnitAt prefix code place item start word
-unit_at prefix code place (Call bits) start word six bytes s e = absurd (none-some (start, word) e)
-unit_at prefix code place (Ret bit) start word six bytes s e = absurd (none-some (start, word) e)
-unit_at prefix code place (Plain i) start word six bytes s e = absurd (none-some (start, word) e)
-unit_at prefix code place (ReturnUnit bit) start word six bytes s e =
-    let p = some_pair 17 start (return_word bit prefix) word e in
-    let u = (return_parts prefix code place bit six bytes s).unit in
-    subst (λ n. UnitAt prefix code place (ReturnUnit bit) n word) p.0 (subst (λ (w : List ℕ). UnitAt prefix code place (ReturnUnit bit) 17 w) p.1 u)
-unit_at prefix code place (CallUnit r bits) start word six bytes s e =
-    let p = some_pair 3 start (call_word bits prefix) word e in
-    let u = (call_parts prefix code place r bits six bytes s).unit in
-    subst (λ n. UnitAt prefix code place (CallUnit r bits) n word) p.0 (subst (λ (w : List ℕ). UnitAt prefix code place (CallUnit r bits) 3 w) p.1 u)
+pub unit_at : (code : LabelledCode) → Facts code → (place : ℕ) (item : Item) (start : ℕ) (word : List ℕ) → StandsAt code.prefix code.bytes place item →
+    check_of code.prefix item ≡ Some (start, word) → UnitAt code place item start word
+unit_at code facts place (Call bits) start word s e = absurd (none-some (start, word) e)
+unit_at code facts place (Ret bit) start word s e = absurd (none-some (start, word) e)
+unit_at code facts place (Plain i) start word s e = absurd (none-some (start, word) e)
+unit_at code facts place (ReturnUnit bit) start word s e =
+    let p = some_pair 17 start (return_word bit code.prefix) word e in
+    let u = (return_parts code facts place bit s).unit in
+    subst (λ n. UnitAt code place (ReturnUnit bit) n word) p.0 (subst (λ (w : List ℕ). UnitAt code place (ReturnUnit bit) 17 w) p.1 u)
+unit_at code facts place (CallUnit r bits) start word s e =
+    let p = some_pair 3 start (call_word bits code.prefix) word e in
+    let u = (call_parts code facts place r bits s).unit in
+    subst (λ n. UnitAt code place (CallUnit r bits) n word) p.0 (subst (λ (w : List ℕ). UnitAt code place (CallUnit r bits) 3 w) p.1 u)
+
+-- the unit in which two cores stand
+pub unit_of : (code : LabelledCode) → Facts code → (stage : Stage) (s t : Registers) (a : AtStage code stage s t) → UnitAt code a.p.at a.p.item a.start a.word
+unit_of code facts stage s t a = unit_at code facts a.p.at a.p.item a.start a.word (item_stands code facts a.i a.p a.stands).0 a.checks

@@ -182,24 +182,32 @@ CoresAlike code (c ∷ cs) [] = ⊥
 abbrev pub memory : ℕ → List ℕ → List ℕ → List ℕ → Memory
 memory size code public private = record { size = size; code = code; public = public; private = private }
 
--- What two runs have in common beside their cores: public memory, what may be seen of the gates' world, which classes have a
--- releaser, and what is left of the tapes.
+-- What two configurations have in common: the size of a segment, public memory, what may be seen of the gates' world, which
+-- classes have a releaser, and what is left of the tapes.
 pub record Common : Type 0 where
+  pub size : ℕ
   pub public : List ℕ
   pub visible : Visible
   pub held : List Bool
   pub tapes : ℕ → TapeState
 
--- what they may differ in: private memory, the private input and output, and what the classes were asked
+-- What they may differ in: their cores, private memory, the private input and output, and what the classes were asked.
 pub record Apart : Type 0 where
+  pub cores : List Core
   pub segment : List ℕ
   pub input : List ℕ
   pub output : List ℕ
   pub asked : ℕ → List ℕ
 
+-- Two configurations but for their outcome: what they have in common, and what each has for itself.
+pub record Two : Type 0 where
+  pub common : Common
+  pub mine : Apart
+  pub yours : Apart
+
 -- the memory, the gates' world and the releasers of one of them
-abbrev pub memory_of : ℕ → List ℕ → Common → Apart → Memory
-memory_of size code common apart = memory size code common.public apart.segment
+abbrev pub memory_of : List ℕ → Common → Apart → Memory
+memory_of code common apart = memory common.size code common.public apart.segment
 
 abbrev pub world_of : Common → Apart → World
 world_of common apart = record { visible = common.visible; private_input = apart.input; private_output = apart.output }
@@ -208,22 +216,24 @@ abbrev pub releasers_of : Common → Apart → Releasers
 releasers_of common apart = record { held = common.held; tapes = common.tapes; asked = apart.asked }
 
 -- a configuration by its parts
-abbrev pub config : ℕ → LabelledCode → List Core → Common → Apart → Outcome → Configuration
-config size code cores common apart o = record {
-  state = record { cores = cores; memory = memory_of size code.bytes common apart; world = world_of common apart; outcome = o };
+abbrev pub config : LabelledCode → Common → Apart → Outcome → Configuration
+config code common apart o = record {
+  state = record { cores = apart.cores; memory = memory_of code.bytes common apart; world = world_of common apart; outcome = o };
   releasers = releasers_of common apart;
 }
 
--- What two runs have in common is bytes, and the gates look for words of the code's prefix.
-pub record IsCommon (code : LabelledCode) (common : Common) : Type 0 where
-  pub public : AreBytes common.public
-  pub prefix_is : common.visible.prefix ≡ code.prefix
-  pub input : AreBytes common.visible.public_input
-  pub tapes : (class : ℕ) → AreBytes (common.tapes class).left.bytes
+-- Two configurations of a code are alike: their segments have that size. Their cores are alike. What they have in common is bytes.
+-- The gates look for words of the code's prefix. The private outputs are of one length.
+pub record TwoAlike (code : LabelledCode) (size : ℕ) (two : Two) : Type 0 where
+  pub size_is : two.common.size ≡ size
+  pub cores : CoresAlike code two.mine.cores two.yours.cores
+  pub public : AreBytes two.common.public
+  pub prefix_is : two.common.visible.prefix ≡ code.prefix
+  pub input : AreBytes two.common.visible.public_input
+  pub tapes : (class : ℕ) → AreBytes (two.common.tapes class).left.bytes
+  pub outputs : length two.mine.output ≡ length two.yours.output
 
--- Two configurations of a code agree: their cores are alike; size, outcome and what they have in common are the same; and their
--- private outputs are of one length. So their views are equal.
+-- Two configurations of a code agree: they are alike, and their outcome is the same. So their views are equal.
 pub data Agree (code : LabelledCode) (size : ℕ) : Configuration → Configuration → Type 0 where
-  agree : (cs ds : List Core) (common : Common) (mine yours : Apart) (o : Outcome) → CoresAlike code cs ds → IsCommon code common →
-      length mine.output ≡ length yours.output →
-      Agree code size (config size code cs common mine o) (config size code ds common yours o)
+  agree : (two : Two) (o : Outcome) → TwoAlike code size two →
+      Agree code size (config code two.common two.mine o) (config code two.common two.yours o)
