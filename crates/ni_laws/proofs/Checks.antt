@@ -30,14 +30,14 @@ use Rattle.ni_laws.proofs.Bytes.{inverse_again, eight_small, same_bytes, take_by
 use Rattle.ni_laws.proofs.Units.{unit_of, inside_code}
 
 -- Two effects of one step: both go on and the cores stand alike again, with the same public memory, or the fault is the same.
-pub data StepsAlike (code : LabelledCode) (size : ℕ) : Effect → Effect → Type 0 where
+pub data StepsAlike (code : LabelledCode) (two : Two) : Effect → Effect → Type 0 where
   both_step : (s t : Registers) (public mine yours : List ℕ) → s.pc ≡ t.pc → Standing code s t →
-      StepsAlike code size (goes s (memory size code.bytes public mine)) (goes t (memory size code.bytes public yours))
-  same_fault : (kind : FaultKind) → StepsAlike code size (faults kind) (faults kind)
+      StepsAlike code two (goes s (memory two.common.size code.bytes public mine)) (goes t (memory two.common.size code.bytes public yours))
+  same_fault : (kind : FaultKind) → StepsAlike code two (faults kind) (faults kind)
 
 -- two cores take a step alike
 abbrev pub BothStep : LabelledCode → Two → Registers → Registers → Type 0
-BothStep code two s t = StepsAlike code two.common.size (core_step (my_memory code.bytes two) s) (core_step (your_memory code.bytes two) t)
+BothStep code two s t = StepsAlike code two (core_step (my_memory code.bytes two) s) (core_step (your_memory code.bytes two) t)
 
 -- ---- what the unit's own writes keep
 
@@ -112,35 +112,35 @@ no_difference a x = omega arith
 eight_taken : (code : List ℕ) (at : ℕ) → code_base ≤ at → at + 8 ≤ code_base + length code → length (take 8 (drop (at - code_base) code)) ≡ 8
 eight_taken code at low fits = omega (arith, length-take 8 (drop (at - code_base) code), length-drop (at - code_base) code)
 
-word_found : (code word : List ℕ) (at : ℕ) → AreBytes code → AreBytes word → length word ≡ 8 → code_base ≤ at → at + 8 ≤ code_base + length code →
-    subtracted (little_endian word) (little_endian (take 8 (drop (at - code_base) code))) ≡ 0 → WordStands code word at
-word_found code word at bytes word_bytes long low fits none =
-    let there : List ℕ = take 8 (drop (at - code_base) code) in
-    let are : AreBytes there = take_bytes 8 (drop (at - code_base) code) (drop_bytes (at - code_base) code bytes) in
-    let eight : length there ≡ 8 = eight_taken code at low fits in
-    let same : little_endian word ≡ little_endian there =
-    zero_difference (little_endian word) (little_endian there) (eight_small word word_bytes long) (eight_small there are eight) none in
-    record {
-      place = at - code_base;
-      here = omega arith;
-      stands = same_bytes there word are word_bytes (eight ∙ sym long) (sym same);
-    }
+module _ (code word : List ℕ) (word_bytes : AreBytes word) (long : length word ≡ 8) where
+  word_found : (at : ℕ) → AreBytes code → code_base ≤ at → at + 8 ≤ code_base + length code →
+      subtracted (little_endian word) (little_endian (take 8 (drop (at - code_base) code))) ≡ 0 → WordStands code word at
+  word_found at bytes low fits none =
+      let there : List ℕ = take 8 (drop (at - code_base) code) in
+      let are : AreBytes there = take_bytes 8 (drop (at - code_base) code) (drop_bytes (at - code_base) code bytes) in
+      let eight : length there ≡ 8 = eight_taken code at low fits in
+      let same : little_endian word ≡ little_endian there =
+      zero_difference (little_endian word) (little_endian there) (eight_small word word_bytes long) (eight_small there are eight) none in
+      record {
+        place = at - code_base;
+        here = omega arith;
+        stands = same_bytes there word are word_bytes (eight ∙ sym long) (sym same);
+      }
 
-word_lost : (code word : List ℕ) (at : ℕ) → AreBytes word → length word ≡ 8 → WordStands code word at →
-    subtracted (little_endian word) (little_endian (take 8 (drop (at - code_base) code))) ≡ 0
-word_lost code word at word_bytes long w =
-    let place : at - code_base ≡ w.place = let h = w.here in omega arith in
-    let same : little_endian (take 8 (drop (at - code_base) code)) ≡ little_endian word = ap (λ n. little_endian (take 8 (drop n code))) place ∙ ap little_endian w.stands in
-    ap (λ n. subtracted (little_endian word) n) same ∙ no_difference (little_endian word) (eight_small word word_bytes long)
+  word_lost : (at : ℕ) → WordStands code word at → subtracted (little_endian word) (little_endian (take 8 (drop (at - code_base) code))) ≡ 0
+  word_lost at w =
+      let place : at - code_base ≡ w.place = let h = w.here in omega arith in
+      let same : little_endian (take 8 (drop (at - code_base) code)) ≡ little_endian word = ap (λ n. little_endian (take 8 (drop n code))) place ∙ ap little_endian w.stands in
+      ap (λ n. subtracted (little_endian word) n) same ∙ no_difference (little_endian word) (eight_small word word_bytes long)
 
--- the flags of the comparison with 8 bytes of the code
-compared_zero : (code word : List ℕ) (x at : ℕ) → AreBytes code → AreBytes word → length word ≡ 8 → code_base ≤ at → at + 8 ≤ code_base + length code → x ≡ little_endian word →
-    ((flags_subtracted x (little_endian (take 8 (drop (at - code_base) code)))).zf ≡ true) ↔ WordStands code word at
-compared_zero code word x at bytes word_bytes long low fits is =
-    let v : ℕ = little_endian (take 8 (drop (at - code_base) code)) in (
-      λ z. word_found code word at bytes word_bytes long low fits (ap (λ n. subtracted n v) (sym is) ∙ eqb-true (subtracted x v) 0 z),
-      λ w. eq-eqb (subtracted x v) 0 (ap (λ n. subtracted n v) is ∙ word_lost code word at word_bytes long w),
-    )
+  -- the flags of the comparison with 8 bytes of the code
+  compared_zero : (x at : ℕ) → AreBytes code → code_base ≤ at → at + 8 ≤ code_base + length code → x ≡ little_endian word →
+      ((flags_subtracted x (little_endian (take 8 (drop (at - code_base) code)))).zf ≡ true) ↔ WordStands code word at
+  compared_zero x at bytes low fits is =
+      let v : ℕ = little_endian (take 8 (drop (at - code_base) code)) in (
+        λ z. word_found at bytes low fits (ap (λ n. subtracted n v) (sym is) ∙ eqb-true (subtracted x v) 0 z),
+        λ w. eq-eqb (subtracted x v) 0 (ap (λ n. subtracted n v) is ∙ word_lost at w),
+      )
 
 -- a word stands inside the code
 stands_inside : (code word : List ℕ) (place : ℕ) → length word ≡ 8 → take 8 (drop place code) ≡ word → place < length code
@@ -178,19 +178,19 @@ compared m s at next is small =
 module _ (code : LabelledCode) (two : Two) where
   -- both go on, with their memories as they were
   pub both_go_on : (s t : Registers) → s.pc ≡ t.pc → Standing code s t →
-      StepsAlike code two.common.size (goes s (my_memory code.bytes two)) (goes t (your_memory code.bytes two))
+      StepsAlike code two (goes s (my_memory code.bytes two)) (goes t (your_memory code.bytes two))
   both_go_on s t counters standing = both_step s t two.common.public two.mine.segment two.yours.segment counters standing
 
   pub both_fetched : (s t : Registers) (place : ℕ) (ins : Instr) → s.pc ≡ code_base + place → s.pc ≡ t.pc → instruction_at (drop place code.bytes) ≡ Some ins →
-      StepsAlike code two.common.size
+      StepsAlike code two
       (executed ins (code_base + place + length (spelling ins)) (my_memory code.bytes two) s)
       (executed ins (code_base + place + length (spelling ins)) (your_memory code.bytes two) t) →
       BothStep code two s t
   both_fetched s t place ins here same is alike =
       let e = fetched (my_memory code.bytes two) s place ins here is in
       let f = fetched (your_memory code.bytes two) t place ins (sym same ∙ here) is in
-      let Q : Effect → Type 0 = λ x. StepsAlike code two.common.size x (core_step (your_memory code.bytes two) t) in
-      let R : Effect → Type 0 = λ y. StepsAlike code two.common.size (executed ins (code_base + place + length (spelling ins)) (my_memory code.bytes two) s) y in
+      let Q : Effect → Type 0 = λ x. StepsAlike code two x (core_step (your_memory code.bytes two) t) in
+      let R : Effect → Type 0 = λ y. StepsAlike code two (executed ins (code_base + place + length (spelling ins)) (my_memory code.bytes two) s) y in
       subst Q (sym e) (subst R (sym f) alike)
 
   -- ---- the stages of a check
@@ -244,7 +244,7 @@ module _ (code : LabelledCode) (two : Two) where
     compare_steps : (a : AtStage code at.compares s t) (test : Bool) → nat_le code_base (value s Gpr10) && nat_le (value s Gpr10 + 8) (code_base + length code.bytes) ≡ test →
         (let next : ℕ = code_base + (a.p.at + a.start + 13) + 8 in
         let o : Option ℕ = cond test (Some (little_endian (take 8 (drop (value s Gpr10 - code_base) code.bytes)))) None in
-        StepsAlike code two.common.size (after_comparison o next (my_memory code.bytes two) s) (after_comparison o next (your_memory code.bytes two) t))
+        StepsAlike code two (after_comparison o next (my_memory code.bytes two) s) (after_comparison o next (your_memory code.bytes two) t))
     compare_steps a false is = same_fault fault.Memory
     compare_steps a true is =
         let u = unit_of code facts at.compares s t a in
@@ -266,8 +266,8 @@ module _ (code : LabelledCode) (two : Two) where
           checks = a.checks;
           here = omega arith;
           inside = in_unit_moved (code.labels a.i) (flagged f s) (flagged g t) next (in_unit_flagged (code.labels a.i) s t f g a.inside);
-          mine = (a.mine, compared_zero code.bytes a.word (value s Gpr11) (value s Gpr10) facts.code_bytes u.bytes u.long low fits a.mine);
-          yours = (a.yours, subst P a.inside.checked (compared_zero code.bytes a.word (value t Gpr11) (value s Gpr10) facts.code_bytes u.bytes u.long low fits a.yours));
+          mine = (a.mine, compared_zero code.bytes a.word u.bytes u.long (value s Gpr11) (value s Gpr10) facts.code_bytes low fits a.mine);
+          yours = (a.yours, subst P a.inside.checked (compared_zero code.bytes a.word u.bytes u.long (value t Gpr11) (value s Gpr10) facts.code_bytes low fits a.yours));
           flags = λ h. ap (λ x. flags_subtracted x v) (a.mine ∙ sym a.yours);
         }))
 
@@ -276,10 +276,10 @@ module _ (code : LabelledCode) (two : Two) where
     stage_compares a =
         let u = unit_of code facts at.compares s t a in
         let next : ℕ = code_base + (a.p.at + a.start + 13) + 8 in
-        let Q : Effect → Type 0 = λ x. StepsAlike code two.common.size x (executed CmpFlat next (your_memory code.bytes two) t) in
+        let Q : Effect → Type 0 = λ x. StepsAlike code two x (executed CmpFlat next (your_memory code.bytes two) t) in
         let o : Option ℕ = cond (nat_le code_base (value s Gpr10) && nat_le (value s Gpr10 + 8) (code_base + length code.bytes))
         (Some (little_endian (take 8 (drop (value s Gpr10 - code_base) code.bytes)))) None in
-        let R : Effect → Type 0 = λ y. StepsAlike code two.common.size (after_comparison o next (my_memory code.bytes two) s) y in
+        let R : Effect → Type 0 = λ y. StepsAlike code two (after_comparison o next (my_memory code.bytes two) s) y in
         both_fetched s t (a.p.at + a.start + 13) CmpFlat (omega (arith, a.here)) a.inside.equal.under.counters u.check.compares
         (subst Q (sym (compared (my_memory code.bytes two) s (value s Gpr10) next refl a.inside.small))
         (subst R (sym (compared (your_memory code.bytes two) t (value s Gpr10) next (sym a.inside.checked) a.inside.small))
@@ -289,7 +289,7 @@ module _ (code : LabelledCode) (two : Two) where
     branch_steps : (z : Bool) (target next : ℕ) →
         (z ≡ true → AtStage code at.advances (moved_to target s) (moved_to target t)) →
         (z ≡ false → AtStage code at.traps (moved_to next s) (moved_to next t)) →
-        StepsAlike code two.common.size (goes_on (cond z target next) (my_memory code.bytes two) s) (goes_on (cond z target next) (your_memory code.bytes two) t)
+        StepsAlike code two (goes_on (cond z target next) (my_memory code.bytes two) s) (goes_on (cond z target next) (your_memory code.bytes two) t)
     branch_steps true target next taken passed = both_go_on _ _ refl (at_stage at.advances (taken refl))
     branch_steps false target next taken passed = both_go_on _ _ refl (at_stage at.traps (passed refl))
 
@@ -303,7 +303,7 @@ module _ (code : LabelledCode) (two : Two) where
         let target : target_of next (pos 2) ≡ next + 2 = omega arith in
         let same : s.flags ≡ t.flags = a.flags refl in
         let zero_same : s.flags.zf ≡ t.flags.zf = ap (λ (f : Flags). f.zf) same in
-        let R : Bool → Type 0 = λ z. StepsAlike code two.common.size
+        let R : Bool → Type 0 = λ z. StepsAlike code two
         (goes_on (cond s.flags.zf (target_of next (pos 2)) next) (my_memory code.bytes two) s) (goes_on (cond z (target_of next (pos 2)) next) (your_memory code.bytes two) t) in
         both_fetched s t (a.p.at + a.start + 21) (Jcc E (pos 2)) (omega (arith, a.here)) a.inside.equal.under.counters u.check.branches
         (subst R zero_same

@@ -23,17 +23,15 @@ use Rattle.cv_word.proofs.ItemLemmas.{length-items_at, items_at-bytes}
 use Rattle.x64_decode.specs.Spelling.{number}
 use Rattle.x64_decode.specs.declared.instr.Reg.{Reg}
 use Rattle.x64_decode.specs.declared.instr.Reg.TheVariants as reg
-use Rattle.code_sweep.specs.declared.item.Placed.{Placed}
+use Rattle.code_sweep.specs.declared.item.Item.TheVariants.{Ret}
 use Rattle.taint_flow.specs.Label.{Label, taint, entry_label, return_label}
-use Rattle.taint_flow.specs.Flow.{address_after, said_behind}
-use Rattle.conf_verify.specs.Rules.{is_word}
 use Rattle.x64_alu.specs.CoreStep.{value, put}
 use Rattle.ni_laws.specs.Agreement.{LabelledCode, Equal, Standing, at_item, Common, Apart, Two, memory_of, world_of, releasers_of, TwoAlike}
 use Rattle.ni_laws.proofs.Bytes.{spliced_are, take_bytes, drop_bytes}
 use Rattle.ni_laws.proofs.Sides.{my_memory, your_memory, my_world, your_world, my_releasers, your_releasers, seeing, seen, apart, set_apart}
-use Rattle.ni_laws.proofs.Items.{Facts, return_at, word_length}
+use Rattle.ni_laws.proofs.Items.{Facts, return_at}
 use Rattle.ni_laws.proofs.Registers.{sixteen_put, value_same, value_other}
-use Rattle.ni_laws.proofs.Landing.{landed_word}
+use Rattle.ni_laws.proofs.Landing.{landed_behind_word}
 
 -- ---- the registers behind a gate that answers
 
@@ -114,9 +112,6 @@ bit_small gate.PrivAlloc = omega arith
 bit_small gate.PubFree = omega arith
 bit_small gate.PrivFree = omega arith
 bit_small gate.Release = omega arith
-
-behind : (place at : ℕ) (q : Placed) → at ≡ code_base + place + 8 → q.at ≡ place → q.len ≡ 8 → at ≡ address_after q
-behind place at q here there long = omega arith
 
 abbrev args : ℕ → ℕ → ℕ → ℕ → Arguments
 args a b c d = record { first = a; second = b; third = c; fourth = d }
@@ -216,12 +211,9 @@ module _ (code : LabelledCode) (facts : Facts code) (size : ℕ) where
     on_behind : (g : Gate) → Entered code size g next two s t → (n m : ℕ) → (result_bit g ≡ 0 → n ≡ m) → (later : Two) → TwoAlike code size later →
         GatesAlike code size (returns code (returned n next s) later.common later.mine) (returns code (returned m next t) later.common later.yours)
     on_behind g e n m same later known =
-        let found = return_at code facts e.place (result_bit g) e.stands in
-        let word : is_word found.q.item ≡ true = ap is_word found.is in
-        let long = word_length code facts found.j found.q found.stands word in
         both_return (returned n next s) (returned m next t) later refl
-        (at_item (landed_word code facts found.j found.q (return_label (result_bit g)) _ _ found.stands word (ap said_behind found.is)
-        (behind e.place next found.q e.here found.at long) (back (result_bit g) (entry_label (bits_of g)) s t n m next (bit_small g) same e.equal))) known
+        (at_item (landed_behind_word code facts _ _ (Ret (result_bit g)) e.place (return_label (result_bit g)) (return_at code facts e.place (result_bit g) e.stands) refl
+        e.here (back (result_bit g) (entry_label (bits_of g)) s t n m next (bit_small g) same e.equal))) known
 
     abbrev Works : Gate → Arguments → Arguments → Type 0
     Works g a b = GatesAlike code size

@@ -224,15 +224,16 @@ word_at code facts place b k stands =
     let f = word_item code.prefix code.bytes code.items (place + 2) facts.occurs e in
     (f.0, f.1, f.2, f.3, let at = f.4 in omega arith)
 
-pub record IsWordItem (items : List Placed) (item : Item) (place : ℕ) : Type 0 where
+-- a word item stands at a place
+pub record IsWordItem (code : LabelledCode) (item : Item) (place : ℕ) : Type 0 where
   pub j : ℕ
   pub q : Placed
-  pub stands : slice_get items j ≡ Some q
+  pub stands : slice_get code.items j ≡ Some q
   pub is : q.item ≡ item
   pub at : q.at ≡ place
 
 pub call_at : (code : LabelledCode) → Facts code → (place bits : ℕ) → take 8 (drop place code.bytes) ≡ call_word bits code.prefix →
-    IsWordItem code.items (Call bits) place
+    IsWordItem code (Call bits) place
 call_at code facts place bits stands =
     let w = word_at code facts place bits 0x11 stands in
     let s = item_stands code facts w.0 w.1 w.2 in
@@ -243,7 +244,7 @@ call_at code facts place bits stands =
     ]
 
 pub return_at : (code : LabelledCode) → Facts code → (place bit : ℕ) → take 8 (drop place code.bytes) ≡ return_word bit code.prefix →
-    IsWordItem code.items (Ret bit) place
+    IsWordItem code (Ret bit) place
 return_at code facts place bit stands =
     let w = word_at code facts place bit 0x22 stands in
     let s = item_stands code facts w.0 w.1 w.2 in

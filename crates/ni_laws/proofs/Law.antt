@@ -17,7 +17,7 @@ use Rattle.std.specs.List.{concat, flat_map}
 use Rattle.std.proofs.lemmas.Option.{same_Some, none-some}
 use Rattle.cv_word.specs.Words.{AreBytes}
 use Rattle.conf_verify.specs.declared.rule.Rule.TheVariants.{V3, V4, V5, V6, V7, V9}
-use Rattle.conf_verify.specs.Rules.{is_word, is_call_word, FollowsCallWord}
+use Rattle.conf_verify.specs.Rules.{is_call_word, FollowsCallWord}
 use Rattle.conf_verify.specs.Verdict.{IsImage, IsAcceptedImage}
 use Rattle.x64_machine.specs.declared.outcome.Outcome.TheVariants.{Running}
 use Rattle.x64_machine.specs.Run.{run, view}
@@ -53,8 +53,8 @@ equal_self l s sixteen = record {
 start_sixteen : (image : Image) (k entry : ℕ) → HasSixteen (start_registers image k entry)
 start_sixteen image k entry = length-set (replicate 16 0) (number Rsp) (public_base + (image.seg_size - k * image.stack_size))
 
-call_word_said : (item : Item) → is_call_word item ≡ true → (is_word item ≡ true) × ((l : Label) × (said_behind item ≡ Some l))
-call_word_said (Call bits) e = (refl, (entry_label bits, refl))
+call_word_said : (item : Item) → is_call_word item ≡ true → (l : Label) × (said_behind item ≡ Some l)
+call_word_said (Call bits) e = (entry_label bits, refl)
 call_word_said (Ret bit) e = absurd (true≢false (sym e))
 call_word_said (Plain i) e = absurd (true≢false (sym e))
 call_word_said (ReturnUnit bit) e = absurd (true≢false (sym e))
@@ -68,8 +68,8 @@ starts_at : (code : LabelledCode) → Facts code → (image : Image) (k entry : 
     AtItem code (start_registers image k entry) (start_registers image k entry)
 starts_at code facts image k entry f =
     let w = call_word_said f.1.item f.3 in
-    landed_word code facts f.0 f.1 w.1.0 _ _ f.2 w.0 w.1.1 (ap (λ n. code_base + n) (sym f.4) ∙ behind_is f.1)
-    (equal_self w.1.0 (start_registers image k entry) (start_sixteen image k entry))
+    landed_word code facts _ _ f.0 f.1 w.0 f.2 w.1 (ap (λ n. code_base + n) (sym f.4) ∙ behind_is f.1)
+    (equal_self w.0 (start_registers image k entry) (start_sixteen image k entry))
 
 start_cores_alike : (code : LabelledCode) → Facts code → (image : Image) (k : ℕ) (entries : List ℕ) →
     ((n : ℕ) (entry : ℕ) → slice_get entries n ≡ Some entry → FollowsCallWord code.items entry) →

@@ -36,10 +36,10 @@ Lands i next there = ((instruction_falls i ≡ true) × (there ≡ next)) ⊎ (i
 
 -- Two effects of an instruction: the states behind it are equal under a label, and so are size, code and public memory; or
 -- the fault is the same.
-pub data Alike (i : Instr) (next : ℕ) (l : Label) (size : ℕ) (code : List ℕ) : Effect → Effect → Type 0 where
+pub data Alike (i : Instr) (next : ℕ) (l : Label) (code : List ℕ) (two : Two) : Effect → Effect → Type 0 where
   both_go : (s t : Registers) (public mine yours : List ℕ) → EqualUnder l s t → Lands i next s.pc →
-      Alike i next l size code (goes s (memory size code public mine)) (goes t (memory size code public yours))
-  both_fault : (kind : FaultKind) → Alike i next l size code (faults kind) (faults kind)
+      Alike i next l code two (goes s (memory two.common.size code public mine)) (goes t (memory two.common.size code public yours))
+  both_fault : (kind : FaultKind) → Alike i next l code two (faults kind) (faults kind)
 
 -- no rule on labels is broken by the instruction
 pub record KeepsRules (i : Instr) (l : Label) : Type 0 where
@@ -59,14 +59,14 @@ loads_where true private v w e = both_loaded v w e
 loads_where false private v w e = both_refused
 
 -- Two stores at one offset: both are refused, or both are done and the public segments stay equal.
-pub data StoresAlike (size : ℕ) (code : List ℕ) : Option Memory → Option Memory → Type 0 where
-  both_kept : StoresAlike size code None None
-  both_stored : (public mine yours : List ℕ) → StoresAlike size code (Some (memory size code public mine)) (Some (memory size code public yours))
+pub data StoresAlike (code : List ℕ) (two : Two) : Option Memory → Option Memory → Type 0 where
+  both_kept : StoresAlike code two None None
+  both_stored : (public mine yours : List ℕ) → StoresAlike code two (Some (memory two.common.size code public mine)) (Some (memory two.common.size code public yours))
 
-stores_where : (test : Bool) (size : ℕ) (code public mine yours : List ℕ) →
-    StoresAlike size code (cond test (Some (memory size code public mine)) None) (cond test (Some (memory size code public yours)) None)
-stores_where true size code public mine yours = both_stored public mine yours
-stores_where false size code public mine yours = both_kept
+stores_where : (code : List ℕ) (two : Two) (test : Bool) (public mine yours : List ℕ) →
+    StoresAlike code two (cond test (Some (memory two.common.size code public mine)) None) (cond test (Some (memory two.common.size code public yours)) None)
+stores_where code two true public mine yours = both_stored public mine yours
+stores_where code two false public mine yours = both_kept
 
 -- what the operands have in common where what the row joins is public
 both : (l : Label) (s t : Registers) (a b : Reg) (f : ℕ → ℕ → ℕ) → EqualUnder l s t → taint l a || taint l b ≡ false → f (value s a) (value s b) ≡ f (value t a) (value t b)
@@ -97,54 +97,54 @@ module _ (code : List ℕ) (two : Two) where
   loads Gs offset width = loads_where (is_mapped two.common.size offset width) true _ _ (λ h. cc)
 
   pub stores : (seg : Seg) (offset width v w : ℕ) (private : Bool) → shows_private seg private ≡ false → (private ≡ false → v ≡ w) →
-      StoresAlike two.common.size code (stored (my_memory code two) seg offset width v) (stored (your_memory code two) seg offset width w)
+      StoresAlike code two (stored (my_memory code two) seg offset width v) (stored (your_memory code two) seg offset width w)
   unfolding stored
   stores Fs offset width v w private hidden same =
-      let P : ℕ → Type 0 = λ n. StoresAlike two.common.size code
+      let P : ℕ → Type 0 = λ n. StoresAlike code two
       (stored (my_memory code two) Fs offset width v) (stored (your_memory code two) Fs offset width n) in
       subst P (same hidden)
-      (stores_where (is_mapped two.common.size offset width) two.common.size code (spliced two.common.public offset (word_bytes width v)) two.mine.segment two.yours.segment)
+      (stores_where code two (is_mapped two.common.size offset width) (spliced two.common.public offset (word_bytes width v)) two.mine.segment two.yours.segment)
   stores Gs offset width v w private hidden same =
-      stores_where (is_mapped two.common.size offset width) two.common.size code two.common.public
+      stores_where code two (is_mapped two.common.size offset width) two.common.public
       (spliced two.mine.segment offset (word_bytes width v)) (spliced two.yours.segment offset (word_bytes width w))
 
   module _ (next : ℕ) where
     -- both go on at the next instruction
     on : (i : Instr) (l : Label) (s t : Registers) → instruction_falls i ≡ true → EqualUnder l s t →
-        Alike i next l two.common.size code (goes_on next (my_memory code two) s) (goes_on next (your_memory code two) t)
+        Alike i next l code two (goes_on next (my_memory code two) s) (goes_on next (your_memory code two) t)
     on i l s t falls e =
         both_go (moved_to next s) (moved_to next t) two.common.public two.mine.segment two.yours.segment (equal_moved l s t next next e refl) (inl (falls, refl))
 
     module _ (l : Label) (s t : Registers) (e : EqualUnder l s t) where
       after_loads : (i : Instr) (private : Bool) (o p : Option ℕ) (extend : ℕ → ℕ) (dst : Reg) → instruction_falls i ≡ true → LoadsAlike private o p →
-          Alike i next (set_reg dst private l) two.common.size code (after_load o extend dst next (my_memory code two) s) (after_load p extend dst next (your_memory code two) t)
+          Alike i next (set_reg dst private l) code two (after_load o extend dst next (my_memory code two) s) (after_load p extend dst next (your_memory code two) t)
       after_loads i private o p extend dst falls both_refused = both_fault fault.Memory
       after_loads i private o p extend dst falls (both_loaded v w same) =
           on i (set_reg dst private l) (put dst (extend v) s) (put dst (extend w) t) falls (equal_put l s t dst private (extend v) (extend w) e (λ h. ap extend (same h)))
 
       -- a load, from registers whose base is equal
       load_row : (i : Instr) (dst : Reg) (mem : Mem) (width : ℕ) (extend : ℕ → ℕ) → instruction_falls i ≡ true → taint l mem.base ≡ false →
-          Alike i next (set_reg dst (segment_taint mem.seg) l) two.common.size code
+          Alike i next (set_reg dst (segment_taint mem.seg) l) code two
           (load_into dst mem width extend next (my_memory code two) s) (load_into dst mem width extend next (your_memory code two) t)
       load_row i dst mem width extend falls base =
-          let P : ℕ → Type 0 = λ offset. Alike i next (set_reg dst (segment_taint mem.seg) l) two.common.size code
+          let P : ℕ → Type 0 = λ offset. Alike i next (set_reg dst (segment_taint mem.seg) l) code two
           (load_into dst mem width extend next (my_memory code two) s)
           (after_load (loaded (your_memory code two) mem.seg offset width) extend dst next (your_memory code two) t) in
           subst P (ap (λ v. operand_offset v mem.disp) (e.registers mem.base base))
           (after_loads i (segment_taint mem.seg) _ _ extend dst falls (loads mem.seg (offset_of s mem) width))
 
-      after_stores : (i : Instr) (m n : Option Memory) → instruction_falls i ≡ true → StoresAlike two.common.size code m n →
-          Alike i next l two.common.size code (after_store m next s) (after_store n next t)
+      after_stores : (i : Instr) (m n : Option Memory) → instruction_falls i ≡ true → StoresAlike code two m n →
+          Alike i next l code two (after_store m next s) (after_store n next t)
       after_stores i m n falls both_kept = both_fault fault.Memory
       after_stores i m n falls (both_stored public mine yours) =
           both_go (moved_to next s) (moved_to next t) public mine yours (equal_moved l s t next next e refl) (inl (falls, refl))
 
       store_row : (i : Instr) (mem : Mem) (width : ℕ) (src : Reg) → instruction_falls i ≡ true → taint l mem.base ≡ false → shows_private mem.seg (taint l src) ≡ false →
-          Alike i next l two.common.size code
+          Alike i next l code two
           (after_store (stored (my_memory code two) mem.seg (offset_of s mem) width (value s src)) next s)
           (after_store (stored (your_memory code two) mem.seg (offset_of t mem) width (value t src)) next t)
       store_row i mem width src falls base shows =
-          let P : ℕ → Type 0 = λ offset. Alike i next l two.common.size code
+          let P : ℕ → Type 0 = λ offset. Alike i next l code two
           (after_store (stored (my_memory code two) mem.seg (offset_of s mem) width (value s src)) next s)
           (after_store (stored (your_memory code two) mem.seg offset width (value t src)) next t) in
           subst P (ap (λ v. operand_offset v mem.disp) (e.registers mem.base base))
@@ -152,7 +152,7 @@ module _ (code : List ℕ) (two : Two) where
 
       -- a division of equal operands
       division : (i : Instr) (a b : Bool) (o : Option (ℕ × ℕ)) → instruction_falls i ≡ true →
-          Alike i next (set_reg Rdx b (set_reg Rax a (set flags true l))) two.common.size code
+          Alike i next (set_reg Rdx b (set_reg Rax a (set flags true l))) code two
           (after_division o next (my_memory code two) s) (after_division o next (your_memory code two) t)
       division i a b None falls = both_fault fault.Divide
       division i a b (Some q) falls =
@@ -161,7 +161,7 @@ module _ (code : List ℕ) (two : Two) where
 
       -- THE LAW OF ONE INSTRUCTION
       pub row : (i : Instr) → StandsAlone i → instruction_is_call i ≡ false → KeepsRules i l →
-          Alike i next (left_by i l) two.common.size code (executed i next (my_memory code two) s) (executed i next (your_memory code two) t)
+          Alike i next (left_by i l) code two (executed i next (my_memory code two) s) (executed i next (your_memory code two) t)
       unfolding executed left_by
       row (Mov wide dst src) alone calls keeps =
           on _ _ _ _ refl (equal_put l s t dst (taint l src) _ _ e (λ h. ap (λ v. cond wide v (v % 2 ^ 32)) (e.registers src h)))
@@ -178,7 +178,7 @@ module _ (code : List ℕ) (two : Two) where
           on _ _ _ _ refl
           (equal_put_own _ _ _ r _ _ (equal_flagged l s t (taint l r) _ _ e (λ h. ap flags_negated (e.registers r h))) (λ h. ap negated (e.registers r (under_flags l r (taint l r) h))))
       row (Idiv r) alone calls keeps =
-          let P : Option (ℕ × ℕ) → Type 0 = λ o. Alike (Idiv r) next (left_by (Idiv r) l) two.common.size code
+          let P : Option (ℕ × ℕ) → Type 0 = λ o. Alike (Idiv r) next (left_by (Idiv r) l) code two
           (executed (Idiv r) next (my_memory code two) s) (after_division o next (your_memory code two) t) in
           subst P (operands l s t r e keeps.divides) (division _ _ _ (divided (value s Rdx) (value s Rax) (value s r)) refl)
       row Cqo alone calls keeps =

@@ -131,13 +131,12 @@ alike_set code (x ∷ cs) (y ∷ ds) (suc i) c d a b = (a.0, alike_set code cs d
 alike_set code [] (y ∷ ds) i c d a b = absurd a
 alike_set code (x ∷ cs) [] i c d a b = absurd a
 
-unless : (code : LabelledCode) (size : ℕ) (a b : Bool) (x y z w : Configuration) → a ≡ b →
-    Agree code size x y → (a ≡ false → Agree code size z w) →
-    Agree code size (cond a x z) (cond b y w)
-unless code size true true x y z w same ended running = ended
-unless code size false false x y z w same ended running = running refl
-unless code size true false x y z w same ended running = absurd (true≢false same)
-unless code size false true x y z w same ended running = absurd (true≢false (sym same))
+unless : (code : LabelledCode) (size : ℕ) (a b : Bool) {x y z w : Configuration} → a ≡ b →
+    Agree code size x y → (a ≡ false → Agree code size z w) → Agree code size (cond a x z) (cond b y w)
+unless code size true true same ended running = ended
+unless code size false false same ended running = running refl
+unless code size true false same ended running = absurd (true≢false same)
+unless code size false true same ended running = absurd (true≢false (sym same))
 
 both_and : {a b c d : Bool} → a ≡ b → c ≡ d → (a && c) ≡ (b && d)
 both_and e f = cc
@@ -173,7 +172,7 @@ module _ (code : LabelledCode) (size : ℕ) (two : Two) (known : TwoAlike code s
 
   module _ (i : ℕ) (c d : Core) (ended : c.ended ≡ d.ended) (pcs : c.registers.pc ≡ d.registers.pc) where
     -- what an instruction leaves
-    after_alike : (e f : Effect) → LeavesBytes e → StepsAlike code two.common.size e f →
+    after_alike : (e f : Effect) → LeavesBytes e → StepsAlike code two e f →
         Agree code size (after_step e i c (my_config code two o)) (after_step f i d (your_config code two o))
     after_alike e f left (both_step s t public' mine' yours' counters standing) =
         agree _ o
@@ -250,7 +249,7 @@ module _ (code : LabelledCode) (size : ℕ) (two : Two) (known : TwoAlike code s
       Agree code size (step_core oc i (my_config code two o)) (step_core od i (your_config code two o))
   core_steps facts i oc od no_core = agree two o known
   core_steps facts i oc od (both_cores c d pair) =
-      unless code size c.ended d.ended _ _ _ _ pair.ended (agree two o known)
+      unless code size c.ended d.ended pair.ended (agree two o known)
       (λ runs. stands_alike i c d pair.ended pair.counters facts (pair.standing runs))
 
 -- THE LAW OF ONE STEP

@@ -1,11 +1,10 @@
 -- One step of two cores of an accepted code that stand alike: both go on and stand alike again, or both fault alike.
-use Rattle.std.proofs.Common.{◌≡◌, ℕ, ◌+◌, ◌-◌, ◌%◌, ◌^◌, ◌<◌, Bool, true, false, List, length, take, drop, Option, Some, None, refl, sym, ◌∙◌, ap, subst, arith, ◌⊎◌, inl, inr, slice_get, cond, ℤ, pos}
+use Rattle.std.proofs.Common.{◌≡◌, ℕ, ◌+◌, ◌-◌, ◌%◌, ◌^◌, ◌<◌, Bool, true, false, List, length, take, drop, Option, Some, None, refl, sym, ◌∙◌, ap, subst, arith, ◌⊎◌, inl, inr, cond, ℤ, pos}
 use Rattle.std.proofs.lemmas.Bool.{true≢false}
 use Rattle.std.proofs.lemmas.Option.{same_Some, none-some}
 use Rattle.cv_word.specs.Words.{AreBytes, little_endian, widened}
 use Rattle.cv_word.specs.MemoryMap.{code_base, public_base, private_base, is_mapped, operand_offset}
 use Rattle.cv_word.specs.Arithmetic.{subtracted}
-use Rattle.cv_word.specs.Gates.{gate_at}
 use Rattle.cv_word.specs.declared.registers.Flags.{Flags}
 use Rattle.cv_word.specs.declared.registers.Registers.{Registers}
 use Rattle.x64_decode.specs.Spelling.{spelling}
@@ -24,7 +23,6 @@ use Rattle.x64_alu.specs.CoreStep.{Effect, value, put, flagged, moved_to, alu_re
 use Rattle.magic_words.specs.MagicWords.{call_word, return_word}
 use Rattle.code_sweep.specs.declared.item.Item.{Item}
 use Rattle.code_sweep.specs.declared.item.Item.TheVariants.{Call, Ret, Plain, ReturnUnit, CallUnit}
-use Rattle.code_sweep.specs.declared.item.Placed.{Placed}
 use Rattle.code_sweep.specs.Listing.{item_bytes}
 use Rattle.taint_flow.specs.Label.{Label, taint, left_by, entry_label, return_label}
 use Rattle.taint_flow.specs.Flow.{address, address_after, said_behind, passes_private, returns_private, has_private_address}
@@ -37,32 +35,33 @@ use Rattle.ni_laws.proofs.Bytes.{four_small}
 use Rattle.ni_laws.proofs.Registers.{moved, stack_put, inside, entered, returned}
 use Rattle.ni_laws.proofs.Sides.{my_memory, your_memory}
 use Rattle.ni_laws.proofs.Rows.{Alike, both_go, both_fault, KeepsRules, row, StoresAlike, both_kept, both_stored, stores}
-use Rattle.ni_laws.proofs.Items.{Facts, item_is, kept, keeps_rules, call_at, return_at, word_length, Callee, procedure, gate, called}
-use Rattle.ni_laws.proofs.Landing.{landed, landed_word}
+use Rattle.ni_laws.proofs.Items.{Facts, item_is, kept, keeps_rules, call_at, return_at, Callee, procedure, gate, called}
+use Rattle.ni_laws.proofs.Landing.{landed, landed_word, landed_behind_word}
 use Rattle.ni_laws.proofs.Units.{return_parts, call_parts, unit_of, last_of, some_pair}
 use Rattle.ni_laws.proofs.Checks.{StepsAlike, both_step, same_fault, BothStep, both_go_on, both_fetched, in_unit_moved, in_unit_ten, in_unit_flagged, in_unit_stack, stage_loads, stage_inverts, stage_compares, stage_branches, stage_traps, stage_advances}
 
 -- ---- calls: the push, and where they go
 
-some_where : (test : Bool) (size : ℕ) (code : List ℕ) (m n x y : Option Memory) → StoresAlike size code m n → StoresAlike size code x y → StoresAlike size code (cond test m x) (cond test n y)
-some_where true size code m n x y a b = a
-some_where false size code m n x y a b = b
+some_where : (code : List ℕ) (two : Two) (test : Bool) {m n x y : Option Memory} → StoresAlike code two m n → StoresAlike code two x y →
+    StoresAlike code two (cond test m x) (cond test n y)
+some_where code two true a b = a
+some_where code two false a b = b
 
 pushes : (code : List ℕ) (two : Two) (at v : ℕ) →
-    StoresAlike two.common.size code (flat_stored (my_memory code two) at v) (flat_stored (your_memory code two) at v)
+    StoresAlike code two (flat_stored (my_memory code two) at v) (flat_stored (your_memory code two) at v)
 unfolding flat_stored
 pushes code two at v =
-    some_where _ two.common.size code _ _ _ _ (stores code two Fs (at - public_base) 8 v v false refl (λ h. refl))
-    (some_where _ two.common.size code _ _ _ _ (stores code two Gs (at - private_base) 8 v v false refl (λ h. refl)) both_kept)
+    some_where code two _ (stores code two Fs (at - public_base) 8 v v false refl (λ h. refl))
+    (some_where code two _ (stores code two Gs (at - private_base) 8 v v false refl (λ h. refl)) both_kept)
 
 -- a core behind a push and a jump
 abbrev pushed_to : ℕ → Registers → Registers
 pushed_to target s = moved_to target (put Rsp (subtracted (value s Rsp) 8) s)
 
-after_pushes : (code : LabelledCode) (size target : ℕ) (s t : Registers) (m n : Option Memory) → StoresAlike size code.bytes m n →
-    Standing code (pushed_to target s) (pushed_to target t) → StepsAlike code size (after_push m target s) (after_push n target t)
-after_pushes code size target s t m n both_kept standing = same_fault fault.Memory
-after_pushes code size target s t m n (both_stored public mine yours) standing = both_step _ _ public mine yours refl standing
+after_pushes : (code : LabelledCode) (two : Two) (target : ℕ) (s t : Registers) {m n : Option Memory} → StoresAlike code.bytes two m n →
+    Standing code (pushed_to target s) (pushed_to target t) → StepsAlike code two (after_push m target s) (after_push n target t)
+after_pushes code two target s t both_kept standing = same_fault fault.Memory
+after_pushes code two target s t (both_stored public mine yours) standing = both_step _ _ public mine yours refl standing
 
 pushed : (l : Label) (s t : Registers) (target : ℕ) → Equal l s t → Equal l (pushed_to target s) (pushed_to target t)
 pushed l s t target e =
@@ -71,26 +70,21 @@ pushed l s t target e =
 
 both_calls : (code : LabelledCode) (two : Two) (target next : ℕ) (s t : Registers) → value s Rsp ≡ value t Rsp →
     Standing code (pushed_to target s) (pushed_to target t) →
-    StepsAlike code two.common.size (calls target next (my_memory code.bytes two) s) (calls target next (your_memory code.bytes two) t)
+    StepsAlike code two (calls target next (my_memory code.bytes two) s) (calls target next (your_memory code.bytes two) t)
 both_calls code two target next s t same standing =
-    let R : ℕ → Type 0 = λ v. StepsAlike code two.common.size (calls target next (my_memory code.bytes two) s)
+    let R : ℕ → Type 0 = λ v. StepsAlike code two (calls target next (my_memory code.bytes two) s)
     (after_push (flat_stored (your_memory code.bytes two) (subtracted v 8) next) target t) in
     subst R same
-    (after_pushes code two.common.size target s t _ _ (pushes code.bytes two (subtracted (value s Rsp) 8) next) standing)
-
-call_is_word : (q : Placed) (bits : ℕ) → q.item ≡ Call bits → (is_word q.item ≡ true) × (said_behind q.item ≡ Some (entry_label bits))
-call_is_word q bits is = (ap is_word is, ap said_behind is)
+    (after_pushes code two target s t (pushes code.bytes two (subtracted (value s Rsp) 8) next) standing)
 
 -- the cores at what is called: behind a call word, or at a gate
-at_callee : (code : LabelledCode) → Facts code → (bits target : ℕ) (s t : Registers) → s.pc ≡ target →
-    Equal (entry_label bits) s t → Callee code.items bits target → Standing code s t
-at_callee code facts bits target s t here e (procedure j q stands is ends) =
-    let w = call_is_word q bits is in
-    at_item (landed_word code facts j q (entry_label bits) s t stands w.0 w.1 (here ∙ sym ends) e)
-at_callee code facts bits target s t here e (gate g is same) =
+at_callee : (code : LabelledCode) → Facts code → (bits : ℕ) (s t : Registers) → Equal (entry_label bits) s t → Callee code.items bits s.pc → Standing code s t
+at_callee code facts bits s t e (procedure j q stands is ends) =
+    at_item (landed_word code facts s t j q (entry_label bits) stands (ap said_behind is) (sym ends) e)
+at_callee code facts bits s t e (gate g is same) =
     at_gate (record {
       gate = g;
-      here = ap (λ (x : ℕ). gate_at x) here ∙ is;
+      here = is;
       equal = subst (λ (x : ℕ). Equal (entry_label x) s t) (sym same) e;
     })
 
@@ -120,34 +114,29 @@ kind_of prefix (Plain i) start word e = absurd (none-some (start, word) e)
 kind_of prefix (ReturnUnit bit) start word e = inl (bit, refl, sym (some_pair 17 start (return_word bit prefix) word e).1, refl)
 kind_of prefix (CallUnit r bits) start word e = inr (r, bits, refl, sym (some_pair 3 start (call_word bits prefix) word e).1, refl)
 
--- behind the word that stands at an address
-behind_word : (place at : ℕ) (q : Placed) → at ≡ code_base + place → q.at ≡ place → q.len ≡ 8 → at + 8 ≡ address_after q
-behind_word place at q here there long = omega arith
-
 call_or_not : (ins : Instr) → ((rel : ℤ) × (ins ≡ instr.Call rel)) ⊎ (instruction_is_call ins ≡ false)
 call_or_not (instr.Call rel) = inl (rel, refl)
 call_or_not _ = inr refl
 
 -- ---- an instruction
 
-steps_from : (code : LabelledCode) → Facts code → (i : ℕ) (p : Placed) (ins : Instr) (size : ℕ) (e f : Effect) →
-    slice_get code.items i ≡ Some p → p.item ≡ Plain ins → KeepsRules ins (code.labels i) → Alike ins (address_after p) (left_by ins (code.labels i)) size code.bytes e f →
-    StepsAlike code size e f
-steps_from code facts i p ins size e f stands is keeps (both_go s t public mine yours equal lands) =
-    both_step s t public mine yours equal.counters
-    (at_item (landed code facts i p ins s t stands is lands (record { under = equal; stack = equal.registers Rsp keeps.stack })))
-steps_from code facts i p ins size e f stands is keeps (both_fault kind) = same_fault kind
-
 module _ (code : LabelledCode) (facts : Facts code) (two : Two) (s t : Registers) where
+  steps_from : (a : AtItem code s t) (ins : Instr) {e f : Effect} → a.p.item ≡ Plain ins → KeepsRules ins (code.labels a.i) →
+      Alike ins (address_after a.p) (left_by ins (code.labels a.i)) code.bytes two e f → StepsAlike code two e f
+  steps_from a ins is keeps (both_go s' t' public mine yours equal lands) =
+      both_step s' t' public mine yours equal.counters
+      (at_item (landed code facts s' t' a.i a.p ins a.stands is lands (record { under = equal; stack = equal.registers Rsp keeps.stack })))
+  steps_from a ins is keeps (both_fault kind) = same_fault kind
+
   plain_step : (a : AtItem code s t) (ins : Instr) → a.p.item ≡ Plain ins → instruction_is_call ins ≡ false → BothStep code two s t
   unfolding item_bytes
   plain_step a ins is calls =
       let stands = item_is code facts a.i a.p (Plain ins) a.stands is in
       let keeps = keeps_rules code facts a.i a.p ins a.stands is in
       let next : address_after a.p ≡ code_base + a.p.at + length (spelling ins) = omega (arith, stands.1) in
-      let P : ℕ → Type 0 = λ n. StepsAlike code two.common.size (executed ins n (my_memory code.bytes two) s) (executed ins n (your_memory code.bytes two) t) in
+      let P : ℕ → Type 0 = λ n. StepsAlike code two (executed ins n (my_memory code.bytes two) s) (executed ins n (your_memory code.bytes two) t) in
       both_fetched code two s t a.p.at ins a.here a.equal.under.counters stands.0.is.3
-      (subst P next (steps_from code facts a.i a.p ins two.common.size _ _ a.stands is keeps
+      (subst P next (steps_from a ins is keeps
       (row code.bytes two (address_after a.p) (code.labels a.i) s t a.equal.under ins stands.0.is.4 calls keeps)))
 
   -- ---- a direct call
@@ -165,15 +154,15 @@ module _ (code : LabelledCode) (facts : Facts code) (two : Two) (s t : Registers
       let keeps : passes_private (Some c.0) (code.labels a.i) ≡ false = ap (λ o. passes_private o (code.labels a.i)) (sym c.1) ∙ kept code facts a.i a.p V15 a.stands in
       let e : Equal (entry_label c.0) s t = entered c.0 (code.labels a.i) s t keeps a.equal in
       let next : after ≡ code_base + a.p.at + length (spelling (instr.Call rel)) = omega (arith, stands.1) in
-      let P : ℕ → Type 0 = λ n. StepsAlike code two.common.size (executed (instr.Call rel) n (my_memory code.bytes two) s) (executed (instr.Call rel) n (your_memory code.bytes two) t) in
+      let P : ℕ → Type 0 = λ n. StepsAlike code two (executed (instr.Call rel) n (my_memory code.bytes two) s) (executed (instr.Call rel) n (your_memory code.bytes two) t) in
       both_fetched code two s t a.p.at (instr.Call rel) a.here a.equal.under.counters stands.0.is.3
       (subst P next (both_calls code two target after s t e.stack
-      (at_callee code facts c.0 target _ _ refl (pushed (entry_label c.0) s t target e) c.2)))
+      (at_callee code facts c.0 _ _ (pushed (entry_label c.0) s t target e) c.2)))
 
   -- ---- the start of a return unit: the address on the stack
 
   raise_steps : (a : AtItem code s t) (bit next : ℕ) (o : Option ℕ) → a.p.item ≡ ReturnUnit bit → next ≡ address a.p + 10 → ((v : ℕ) → o ≡ Some v → v < 2 ^ 32) →
-      StepsAlike code two.common.size (after_load o (λ v. v) Gpr10 next (my_memory code.bytes two) s) (after_load o (λ v. v) Gpr10 next (your_memory code.bytes two) t)
+      StepsAlike code two (after_load o (λ v. v) Gpr10 next (my_memory code.bytes two) s) (after_load o (λ v. v) Gpr10 next (your_memory code.bytes two) t)
   raise_steps a bit next None is at small = same_fault fault.Memory
   raise_steps a bit next (Some v) is at small =
       both_go_on code two (moved_to next (put Gpr10 v s)) (moved_to next (put Gpr10 v t)) refl
@@ -197,7 +186,7 @@ module _ (code : LabelledCode) (facts : Facts code) (two : Two) (s t : Registers
       let offset : ℕ = offset_of s mem in
       let same : loaded (my_memory code.bytes two) Fs offset 4 ≡ loaded (your_memory code.bytes two) Fs (offset_of t mem) 4 =
       same_load code.bytes two offset 4 ∙ ap (λ v. loaded (your_memory code.bytes two) Fs (operand_offset v (pos 0)) 4) a.equal.stack in
-      let R : Option ℕ → Type 0 = λ o. StepsAlike code two.common.size
+      let R : Option ℕ → Type 0 = λ o. StepsAlike code two
       (after_load (loaded (my_memory code.bytes two) Fs offset 4) (λ v. v) Gpr10 next (my_memory code.bytes two) s) (after_load o (λ v. v) Gpr10 next (your_memory code.bytes two) t) in
       both_fetched code two s t a.p.at (Load false Gpr10 mem) a.here a.equal.under.counters parts.first
       (subst R same (raise_steps a bit next (loaded (my_memory code.bytes two) Fs offset 4) is refl
@@ -270,15 +259,13 @@ module _ (code : LabelledCode) (facts : Facts code) (two : Two) (s t : Registers
       let parts = return_parts code facts a.p.at bit (item_is code facts a.i a.p (ReturnUnit bit) a.stands is).0 in
       let w = a.mine.1.2 in
       let found = return_at code facts w.place bit (w.stands ∙ word) in
-      let is_word_item : is_word found.q.item ≡ true = ap is_word found.is in
-      let long = word_length code facts found.j found.q found.stands is_word_item in
       let keeps : returns_private (ReturnUnit bit) (inside_label (code.labels a.i)) ≡ false =
       ap (λ item. returns_private item (code.labels a.i)) (sym is) ∙ kept code facts a.i a.p V16 a.stands in
       let e : Equal (return_label bit) s t = returned bit (inside_label (code.labels a.i)) s t parts.small keeps a.inside.equal in
-      let goal_pc : value s Gpr10 ≡ address_after found.q = a.mine.1.1 ∙ behind_word w.place a.mine.1.0 found.q w.here found.at long in
+      let goal_pc : value s Gpr10 ≡ code_base + w.place + 8 = a.mine.1.1 ∙ ap (λ n. n + 8) w.here in
       both_fetched code two s t (a.p.at + a.start + 36) JmpR10 (omega (arith, a.here)) a.inside.equal.under.counters (u.check.leaves ∙ ap (λ i. Some i) last)
       (both_go_on code two (moved_to (value s Gpr10) s) (moved_to (value t Gpr10) t) a.inside.checked
-      (at_item (landed_word code facts found.j found.q (return_label bit) _ _ found.stands is_word_item (ap said_behind found.is) goal_pc
+      (at_item (landed_behind_word code facts _ _ (Ret bit) w.place (return_label bit) found refl goal_pc
       (moved (return_label bit) s t (value s Gpr10) (value t Gpr10) e a.inside.checked))))
 
   call_leaves : (a : AtStage code at.leaves s t) (r : Reg) (bits : ℕ) → a.p.item ≡ CallUnit r bits → a.word ≡ call_word bits code.prefix → last_of a.p.item ≡ CallR10 → BothStep code two s t
@@ -287,19 +274,17 @@ module _ (code : LabelledCode) (facts : Facts code) (two : Two) (s t : Registers
       let u = unit_of code facts at.leaves s t a in
       let w = a.mine.1.2 in
       let found = call_at code facts w.place bits (w.stands ∙ word) in
-      let is_word_item : is_word found.q.item ≡ true = ap is_word found.is in
-      let long = word_length code facts found.j found.q found.stands is_word_item in
       let calls_it : callee code.items a.p ≡ Some bits = ap (λ item. bits_called code.items item (address_after a.p)) is in
       let keeps : passes_private (Some bits) (inside_label (code.labels a.i)) ≡ false =
       ap (λ o. passes_private o (code.labels a.i)) (sym calls_it) ∙ kept code facts a.i a.p V15 a.stands in
       let e : Equal (entry_label bits) s t = entered bits (inside_label (code.labels a.i)) s t keeps a.inside.equal in
       let target : ℕ = value s Gpr10 in
       let next : ℕ = code_base + (a.p.at + a.start + 36) + length (spelling CallR10) in
-      let goal_pc : target ≡ address_after found.q = a.mine.1.1 ∙ behind_word w.place a.mine.1.0 found.q w.here found.at long in
-      let R : ℕ → Type 0 = λ x. StepsAlike code two.common.size (calls target next (my_memory code.bytes two) s) (calls x next (your_memory code.bytes two) t) in
+      let goal_pc : target ≡ code_base + w.place + 8 = a.mine.1.1 ∙ ap (λ n. n + 8) w.here in
+      let R : ℕ → Type 0 = λ x. StepsAlike code two (calls target next (my_memory code.bytes two) s) (calls x next (your_memory code.bytes two) t) in
       both_fetched code two s t (a.p.at + a.start + 36) CallR10 (omega (arith, a.here)) a.inside.equal.under.counters (u.check.leaves ∙ ap (λ i. Some i) last)
       (subst R a.inside.checked (both_calls code two target next s t e.stack
-      (at_item (landed_word code facts found.j found.q (entry_label bits) _ _ found.stands is_word_item (ap said_behind found.is) goal_pc
+      (at_item (landed_behind_word code facts _ _ (Call bits) w.place (entry_label bits) found refl goal_pc
       (pushed (entry_label bits) s t target e)))))
 
   stage_leaves : AtStage code at.leaves s t → BothStep code two s t
