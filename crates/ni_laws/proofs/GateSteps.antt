@@ -43,37 +43,35 @@ bit_zero bit small h =
     let other : bit ≢ 1 = λ e. true≢false (sym (eq-eqb bit 1 e) ∙ h) in
     omega arith
 
--- rax, where the answer is public, and rsp are equal
-back_registers : (bit : ℕ) (l : Label) (s t : Registers) (n m v w : ℕ) → bit < 2 → (bit ≡ 0 → n ≡ m) → v ≡ w → Equal l s t →
-    (r : Reg) → taint (return_label bit) r ≡ false → value (put reg.Rsp v (put reg.Rax n s)) r ≡ value (put reg.Rsp w (put reg.Rax m t)) r
-unfolding return_label
-back_registers bit l s t n m v w small same level e reg.Rax h =
-    value_other (put reg.Rax n s) reg.Rsp reg.Rax v rax_rsp ∙ value_same s reg.Rax reg.Rax n e.under.mine refl ∙ same (bit_zero bit small h)
-    ∙ sym (value_other (put reg.Rax m t) reg.Rsp reg.Rax w rax_rsp ∙ value_same t reg.Rax reg.Rax m e.under.yours refl)
-back_registers bit l s t n m v w small same level e reg.Rsp h =
-    value_same (put reg.Rax n s) reg.Rsp reg.Rsp v (sixteen_put reg.Rax n s e.under.mine) refl ∙ level
-    ∙ sym (value_same (put reg.Rax m t) reg.Rsp reg.Rsp w (sixteen_put reg.Rax m t e.under.yours) refl)
-back_registers bit l s t n m v w small same level e _ h = absurd (true≢false h)
+module _ (bit : ℕ) (l : Label) (s t : Registers) (n m : ℕ) (small : bit < 2) (same : bit ≡ 0 → n ≡ m) (e : Equal l s t) where
+  -- rax, where the answer is public, and rsp are equal
+  back_registers : (v w : ℕ) → v ≡ w → (r : Reg) → taint (return_label bit) r ≡ false → value (put reg.Rsp v (put reg.Rax n s)) r ≡ value (put reg.Rsp w (put reg.Rax m t)) r
+  unfolding return_label
+  back_registers v w level reg.Rax h =
+      value_other (put reg.Rax n s) reg.Rsp reg.Rax v rax_rsp ∙ value_same s reg.Rax reg.Rax n e.under.mine refl ∙ same (bit_zero bit small h)
+      ∙ sym (value_other (put reg.Rax m t) reg.Rsp reg.Rax w rax_rsp ∙ value_same t reg.Rax reg.Rax m e.under.yours refl)
+  back_registers v w level reg.Rsp h =
+      value_same (put reg.Rax n s) reg.Rsp reg.Rsp v (sixteen_put reg.Rax n s e.under.mine) refl ∙ level
+      ∙ sym (value_same (put reg.Rax m t) reg.Rsp reg.Rsp w (sixteen_put reg.Rax m t e.under.yours) refl)
+  back_registers v w level _ h = absurd (true≢false h)
 
-back : (bit : ℕ) (l : Label) (s t : Registers) (n m next : ℕ) → bit < 2 → (bit ≡ 0 → n ≡ m) → Equal l s t →
-    Equal (return_label bit) (returned n next s) (returned m next t)
-unfolding return_label
-back bit l s t n m next small same e =
-    let v : ℕ = sum_64 (rsp_of s) 8 in
-    let w : ℕ = sum_64 (rsp_of t) 8 in
-    let level : v ≡ w = ap (λ (x : ℕ). sum_64 x 8) e.stack in
-    let both : (r : Reg) → taint (return_label bit) r ≡ false → value (put reg.Rsp v (put reg.Rax n s)) r ≡ value (put reg.Rsp w (put reg.Rax m t)) r =
-    back_registers bit l s t n m v w small same level e in
-    record {
-      under = record {
-        mine = sixteen_put reg.Rsp v (put reg.Rax n s) (sixteen_put reg.Rax n s e.under.mine);
-        yours = sixteen_put reg.Rsp w (put reg.Rax m t) (sixteen_put reg.Rax m t e.under.yours);
-        registers = both;
-        flags = λ h. absurd (true≢false h);
-        counters = refl;
-      };
-      stack = both reg.Rsp refl;
-    }
+  back : (next : ℕ) → Equal (return_label bit) (returned n next s) (returned m next t)
+  unfolding return_label
+  back next =
+      let v : ℕ = sum_64 (rsp_of s) 8 in
+      let w : ℕ = sum_64 (rsp_of t) 8 in
+      let both : (r : Reg) → taint (return_label bit) r ≡ false → value (put reg.Rsp v (put reg.Rax n s)) r ≡ value (put reg.Rsp w (put reg.Rax m t)) r =
+      back_registers v w (ap (λ (x : ℕ). sum_64 x 8) e.stack) in
+      record {
+        under = record {
+          mine = sixteen_put reg.Rsp v (put reg.Rax n s) (sixteen_put reg.Rax n s e.under.mine);
+          yours = sixteen_put reg.Rsp w (put reg.Rax m t) (sixteen_put reg.Rax m t e.under.yours);
+          registers = both;
+          flags = λ h. absurd (true≢false h);
+          counters = refl;
+        };
+        stack = both reg.Rsp refl;
+      }
 
 -- ---- two effects of a gate step
 
@@ -213,7 +211,7 @@ module _ (code : LabelledCode) (facts : Facts code) (size : ℕ) where
     on_behind g e n m same later known =
         both_return (returned n next s) (returned m next t) later refl
         (at_item (landed_behind_word code facts _ _ (Ret (result_bit g)) e.place (return_label (result_bit g)) (return_at code facts e.place (result_bit g) e.stands) refl
-        e.here (back (result_bit g) (entry_label (bits_of g)) s t n m next (bit_small g) same e.equal))) known
+        e.here (back (result_bit g) (entry_label (bits_of g)) s t n m (bit_small g) same e.equal next))) known
 
     abbrev Works : Gate → Arguments → Arguments → Type 0
     Works g a b = GatesAlike code size

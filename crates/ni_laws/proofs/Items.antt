@@ -37,17 +37,30 @@ pub record Facts (code : LabelledCode) : Type 0 where
   pub meets : MeetsFlow code.items code.labels
   pub flow : (rule : Rule) (place : ℕ) → BreaksUnder rule code.items code.labels place → ⊥
 
--- an item of a chain stands at its place, with its length
-chain_item : (prefix code : List ℕ) (items : List Placed) (from to i : ℕ) (p : Placed) → IsChain prefix code items from to → slice_get items i ≡ Some p →
-    StandsAt prefix code p.at p.item × (p.len ≡ length (item_bytes prefix p.item))
-chain_item prefix code [] from to i p chain e = absurd (none-some p e)
-chain_item prefix code (q ∷ qs) from to zero p chain e =
-    let same = same_Some q p e in
-    let P : Placed → Type 0 = λ x. StandsAt prefix code x.at x.item × (x.len ≡ length (item_bytes prefix x.item)) in
-    let Q : ℕ → Type 0 = λ x. StandsAt prefix code x q.item in
-    subst P same (subst Q (sym chain.0) chain.2, chain.1)
-chain_item prefix code (q ∷ qs) from to (suc i) p chain e = chain_item prefix code qs (from + q.len) to i p chain.3 e
+module _ (prefix code : List ℕ) where
+  -- an item of a chain stands at its place, with its length
+  chain_item : (items : List Placed) (from to i : ℕ) (p : Placed) → IsChain prefix code items from to → slice_get items i ≡ Some p →
+      StandsAt prefix code p.at p.item × (p.len ≡ length (item_bytes prefix p.item))
+  chain_item [] from to i p chain e = absurd (none-some p e)
+  chain_item (q ∷ qs) from to zero p chain e =
+      let same = same_Some q p e in
+      let P : Placed → Type 0 = λ x. StandsAt prefix code x.at x.item × (x.len ≡ length (item_bytes prefix x.item)) in
+      let Q : ℕ → Type 0 = λ x. StandsAt prefix code x q.item in
+      subst P same (subst Q (sym chain.0) chain.2, chain.1)
+  chain_item (q ∷ qs) from to (suc i) p chain e = chain_item qs (from + q.len) to i p chain.3 e
 
+  -- the item behind one begins where that one ends
+  chain_next : (items : List Placed) (from to i : ℕ) {p q : Placed} → IsChain prefix code items from to →
+      slice_get items i ≡ Some p → slice_get items (suc i) ≡ Some q → q.at ≡ p.at + p.len
+  chain_next [] from to i {p = p} chain e f = absurd (none-some p e)
+  chain_next (a ∷ []) from to zero {q = q} chain e f = absurd (none-some q f)
+  chain_next (a ∷ (b ∷ rest)) from to zero {p = p} {q = q} chain e f =
+      let P : Placed → Type 0 = λ x. b.at ≡ x.at + x.len in
+      let Q : Placed → Type 0 = λ x. x.at ≡ p.at + p.len in
+      subst Q (same_Some b q f) (subst P (same_Some a p e) (chain.3.0 ∙ ap (λ n. n + a.len) (sym chain.0)))
+  chain_next (a ∷ rest) from to (suc i) chain e f = chain_next rest (from + a.len) to i chain.3 e f
+
+-- .. so an item of an accepted code does
 pub item_stands : (code : LabelledCode) → Facts code → (i : ℕ) (p : Placed) → slice_get code.items i ≡ Some p →
     StandsAt code.prefix code.bytes p.at p.item × (p.len ≡ length (item_bytes code.prefix p.item))
 item_stands code facts i p e = chain_item code.prefix code.bytes code.items 0 (length code.bytes) i p facts.listing e
@@ -58,17 +71,6 @@ pub item_is : (code : LabelledCode) → Facts code → (i : ℕ) (p : Placed) (i
 item_is code facts i p item e is =
     let P : Item → Type 0 = λ x. StandsAt code.prefix code.bytes p.at x × (p.len ≡ length (item_bytes code.prefix x)) in
     subst P is (item_stands code facts i p e)
-
--- the item behind one begins where that one ends
-chain_next : (prefix code : List ℕ) (items : List Placed) (from to i : ℕ) (p q : Placed) → IsChain prefix code items from to →
-    slice_get items i ≡ Some p → slice_get items (suc i) ≡ Some q → q.at ≡ p.at + p.len
-chain_next prefix code [] from to i p q chain e f = absurd (none-some p e)
-chain_next prefix code (a ∷ []) from to zero p q chain e f = absurd (none-some q f)
-chain_next prefix code (a ∷ (b ∷ rest)) from to zero p q chain e f =
-    let P : Placed → Type 0 = λ x. b.at ≡ x.at + x.len in
-    let Q : Placed → Type 0 = λ x. x.at ≡ p.at + p.len in
-    subst Q (same_Some b q f) (subst P (same_Some a p e) (chain.3.0 ∙ ap (λ n. n + a.len) (sym chain.0)))
-chain_next prefix code (a ∷ rest) from to (suc i) p q chain e f = chain_next prefix code rest (from + a.len) to i p q chain.3 e f
 
 -- behind an item that isn't the last stands another
 item_behind : (items : List Placed) (i : ℕ) (p : Placed) → slice_get items i ≡ Some p → suc i ≢ length items → (q : Placed) × (slice_get items (suc i) ≡ Some q)
@@ -102,7 +104,7 @@ next_item code facts i p stands not_end no_call =
     let follows : FollowsCall code.items (suc i) → ⊥ = λ f.
     true≢false (sym (ap (λ (x : Placed). is_call x.item) (before_suc code.items i f.0 p f.1 stands f.3 f.2) ∙ f.4) ∙ no_call) in
     let no_return : (bit : ℕ) → q.item ≡ Ret bit → ⊥ = λ bit is. facts.returns q.at (suc i, q, stands', refl, inr (bit, is, follows)) in
-    let next : q.at ≡ p.at + p.len = chain_next code.prefix code.bytes code.items 0 (length code.bytes) i p q facts.listing stands stands' in
+    let next : q.at ≡ p.at + p.len = chain_next code.prefix code.bytes code.items 0 (length code.bytes) i facts.listing stands stands' in
     record { q = q; stands = stands'; no_word = no_word_of q.item no_call_word no_return; here = omega arith }
 
 -- an item that passes a test, or none does

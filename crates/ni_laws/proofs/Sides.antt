@@ -23,10 +23,11 @@ my_releasers two = releasers_of two.common two.mine
 abbrev pub your_releasers : Two → Releasers
 your_releasers two = releasers_of two.common two.yours
 
--- with something else to be seen of the gates' world
+-- two configurations with something else to be seen of the gates' world
 abbrev pub seeing : Visible → Two → Two
 seeing v two = record two { common = record two.common { visible = v } }
 
+-- .. two that are alike still are, where the prefix and the public input stay
 pub seen : (code : LabelledCode) (size : ℕ) (two : Two) (v : Visible) → TwoAlike code size two →
     v.prefix ≡ two.common.visible.prefix → v.public_input ≡ two.common.visible.public_input → TwoAlike code size (seeing v two)
 seen code size two v known p i = record {
@@ -39,10 +40,11 @@ seen code size two v known p i = record {
   outputs = known.outputs;
 }
 
--- with something else for each
+-- two configurations with something else for each
 abbrev pub apart : Apart → Apart → Two → Two
 apart mine yours two = record two { mine = mine; yours = yours }
 
+-- .. two that are alike still are, where the cores are alike and the private outputs are of one length
 pub set_apart : (code : LabelledCode) (size : ℕ) (two : Two) (mine yours : Apart) → TwoAlike code size two →
     CoresAlike code mine.cores yours.cores → length mine.output ≡ length yours.output → TwoAlike code size (apart mine yours two)
 set_apart code size two mine yours known cores outputs = record {
