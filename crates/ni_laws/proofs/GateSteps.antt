@@ -10,7 +10,7 @@ use Rattle.cv_word.specs.MemoryMap.{code_base, is_mapped}
 use Rattle.cv_word.specs.Marks.{return_word}
 use Rattle.cv_word.specs.Gates.{bits_of, result_bit}
 use Rattle.cv_word.specs.Memory.{Memory, is_good, items_at}
-use Rattle.cv_word.specs.GateStep.{Visible, TapeState, Ending, ends_core, exits, runs_out, most_output, private_range, answers, ends, GateEffect, goes, stops, faults, gate_step, from_waiting, unless_refused, after_work, work, refusal, reads, writes, read_from, arguments_of, returned, rsp_of, stands_in_code, is_short, advanced, with_class, copied, next_private, after_private, audit_entry}
+use Rattle.cv_word.specs.GateStep.{Visible, World, Releasers, TapeState, Ending, ends_core, exits, runs_out, most_output, private_range, answers, ends, GateEffect, goes, stops, faults, gate_step, from_waiting, unless_refused, after_work, work, refusal, reads, writes, read_from, arguments_of, returned, rsp_of, stands_in_code, is_short, advanced, with_class, copied, next_private, after_private, audit_entry}
 use Rattle.cv_word.specs.Heap.{taken_at, after_take, gives, after_give}
 use Rattle.std.specs.Prelude.{unwrap_or}
 use Rattle.cv_word.specs.declared.fault.FaultKind.{FaultKind}
@@ -77,6 +77,13 @@ module _ (bit : ℕ) (l : Label) (s t : Registers) (n m : ℕ) (small : bit < 2)
 
 abbrev returns : LabelledCode → Registers → Common → Apart → GateEffect
 returns code s common apart = goes s (memory_of code.bytes common apart) (world_of common apart) (releasers_of common apart)
+
+-- what a gate does in each of two configurations
+abbrev pub in_mine : LabelledCode → Two → (Memory → World → Releasers → GateEffect) → GateEffect
+in_mine code two f = f (my_memory code.bytes two) (my_world two) (my_releasers two)
+
+abbrev pub in_yours : LabelledCode → Two → (Memory → World → Releasers → GateEffect) → GateEffect
+in_yours code two f = f (your_memory code.bytes two) (your_world two) (your_releasers two)
 
 -- Two effects of a gate: both go on and the cores stand alike again, beside configurations that are alike; or both stop alike; or
 -- the fault is the same.
@@ -386,9 +393,7 @@ module _ (code : LabelledCode) (facts : Facts code) (size : ℕ) where
     -- ---- the gate step
 
     after_refusals : (g : Gate) → Entered code size g next two s t → (o : Option FaultKind) →
-        GatesAlike code size
-        (unless_refused o g next s (my_memory code.bytes two) (my_world two) (my_releasers two))
-        (unless_refused o g next t (your_memory code.bytes two) (your_world two) (your_releasers two))
+        GatesAlike code size (in_mine code two (unless_refused o g next s)) (in_yours code two (unless_refused o g next t))
     after_refusals g e (Some kind) = both_refuse kind
     after_refusals g e None = works g e
 
@@ -407,10 +412,7 @@ module _ (code : LabelledCode) (facts : Facts code) (size : ℕ) where
       (at - code_base, omega arith, same_bytes_are _ word outer.1)
 
   module _ (g : Gate) (two : Two) (s t : Registers) (equal : Equal (entry_label (bits_of g)) s t) (known : TwoAlike code size two) where
-    waited : (at : ℕ) →
-        GatesAlike code size
-        (from_waiting at g s (my_memory code.bytes two) (my_world two) (my_releasers two))
-        (from_waiting at g t (your_memory code.bytes two) (your_world two) (your_releasers two))
+    waited : (at : ℕ) → GatesAlike code size (in_mine code two (from_waiting at g s)) (in_yours code two (from_waiting at g t))
     unfolding stands_in_code
     waited at =
         not_found (stands_in_code (my_memory code.bytes two) (return_word (result_bit g) two.common.visible.prefix) at) _ _
@@ -423,23 +425,21 @@ module _ (code : LabelledCode) (facts : Facts code) (size : ℕ) where
           equal = equal;
           known = known;
         } in
+        let mine : Option FaultKind = refusal two.common.size g (arguments_of s) (my_world two) (my_releasers two) in
         let P : Option FaultKind → Type 0 = λ o. GatesAlike code size
-        (unless_refused (refusal two.common.size g (arguments_of s) (my_world two) (my_releasers two)) g (at + 8) s (my_memory code.bytes two) (my_world two) (my_releasers two))
-        (unless_refused o g (at + 8) t (your_memory code.bytes two) (your_world two) (your_releasers two)) in
+        (in_mine code two (unless_refused mine g (at + 8) s))
+        (in_yours code two (unless_refused o g (at + 8) t)) in
         subst P (refusals g two s t equal known.outputs)
-        (after_refusals (at + 8) two s t g e (refusal two.common.size g (arguments_of s) (my_world two) (my_releasers two)))) fault.GateReturn
+        (after_refusals (at + 8) two s t g e mine)) fault.GateReturn
 
     -- THE LAW OF A GATE STEP
-    pub gates_step :
-        GatesAlike code size
-        (gate_step g s (my_memory code.bytes two) (my_world two) (my_releasers two))
-        (gate_step g t (your_memory code.bytes two) (your_world two) (your_releasers two))
+    pub gates_step : GatesAlike code size (in_mine code two (gate_step g s)) (in_yours code two (gate_step g t))
     unfolding gate_step
     gates_step =
         let P : ℕ → Type 0 = λ top. GatesAlike code size
-        (gate_step g s (my_memory code.bytes two) (my_world two) (my_releasers two))
+        (in_mine code two (gate_step g s))
         (cond (is_mapped two.common.size (top % 2 ^ 32) 4)
-        (from_waiting (little_endian (take 4 (drop (top % 2 ^ 32) two.common.public))) g t (your_memory code.bytes two) (your_world two) (your_releasers two)) (faults fault.Memory)) in
+        (in_yours code two (from_waiting (little_endian (take 4 (drop (top % 2 ^ 32) two.common.public))) g t)) (faults fault.Memory)) in
         subst P equal.stack
         (not_found (is_mapped two.common.size (rsp_of s % 2 ^ 32) 4) _ _
         (λ mapped. waited (little_endian (take 4 (drop (rsp_of s % 2 ^ 32) two.common.public)))) fault.Memory)

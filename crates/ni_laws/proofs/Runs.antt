@@ -171,6 +171,12 @@ module _ (code : LabelledCode) (size : ℕ) (two : Two) (known : TwoAlike code s
       agree (with_cores cs ds two) o' (set_apart code size two (record two.mine { cores = cs }) (record two.yours { cores = ds }) known cores known.outputs)
 
   module _ (i : ℕ) (c d : Core) (ended : c.ended ≡ d.ended) (pcs : c.registers.pc ≡ d.registers.pc) where
+    -- they agree with an outcome that tells where the cores stand
+    stopped : (told : ℕ → Outcome) → Agree code size (my_config code two (told c.registers.pc)) (your_config code two (told d.registers.pc))
+    stopped told =
+        let P : ℕ → Type 0 = λ pc. Agree code size (my_config code two (told c.registers.pc)) (your_config code two (told pc)) in
+        subst P pcs (agree two (told c.registers.pc) known)
+
     -- what an instruction leaves
     after_alike : (e f : Effect) → LeavesBytes e → StepsAlike code two e f →
         Agree code size (after_step e i c (my_config code two o)) (after_step f i d (your_config code two o))
@@ -185,10 +191,7 @@ module _ (code : LabelledCode) (size : ℕ) (two : Two) (known : TwoAlike code s
           tapes = known.tapes;
           outputs = known.outputs;
         })
-    after_alike e f left (same_fault kind) =
-        let P : ℕ → Type 0 = λ pc. Agree code size
-        (my_config code two (outcome.Fault i c.registers.pc kind)) (your_config code two (outcome.Fault i pc kind)) in
-        subst P pcs (agree two (outcome.Fault i c.registers.pc kind) known)
+    after_alike e f left (same_fault kind) = stopped (λ pc. outcome.Fault i pc kind)
 
     -- what a core that ends leaves
     core_end_alike : Agree code size (after_core_end i c (my_config code two o)) (after_core_end i d (your_config code two o))
@@ -210,26 +213,24 @@ module _ (code : LabelledCode) (size : ℕ) (two : Two) (known : TwoAlike code s
         agree _ o (set_apart code size later (record later.mine { cores = _ }) (record later.yours { cores = _ }) known' a known'.outputs)
     after_gates e f (both_stop ends_core) = core_end_alike
     after_gates e f (both_stop (exits status)) = agree two (outcome.Exited status) known
-    after_gates e f (both_stop (runs_out class)) =
-        let P : ℕ → Type 0 = λ pc. Agree code size
-        (my_config code two (outcome.Tape i c.registers.pc class)) (your_config code two (outcome.Tape i pc class)) in
-        subst P pcs (agree two (outcome.Tape i c.registers.pc class) known)
-    after_gates e f (both_refuse kind) =
-        let P : ℕ → Type 0 = λ pc. Agree code size
-        (my_config code two (outcome.Fault i c.registers.pc kind)) (your_config code two (outcome.Fault i pc kind)) in
-        subst P pcs (agree two (outcome.Fault i c.registers.pc kind) known)
+    after_gates e f (both_stop (runs_out class)) = stopped (λ pc. outcome.Tape i pc class)
+    after_gates e f (both_refuse kind) = stopped (λ pc. outcome.Fault i pc kind)
+
+    -- the gate at which the cores stand, if any, is the same
+    at_gates : (g : Option Gate) → gate_at c.registers.pc ≡ g → Agree code size (step_at g i c (my_config code two o)) (step_at g i d (your_config code two o)) →
+        Agree code size (step_at (gate_at c.registers.pc) i c (my_config code two o)) (step_at (gate_at d.registers.pc) i d (your_config code two o))
+    at_gates g is both =
+        let P : Option Gate → Type 0 = λ x. Agree code size
+        (step_at x i c (my_config code two o)) (step_at (gate_at d.registers.pc) i d (your_config code two o)) in
+        let Q : Option Gate → Type 0 = λ x. Agree code size
+        (step_at g i c (my_config code two o)) (step_at x i d (your_config code two o)) in
+        subst P (sym is) (subst Q (sym is ∙ ap (λ (n : ℕ). gate_at n) pcs) both)
 
     -- at an item or in a unit, which are in the code, an instruction takes effect
     in_code : code_base ≤ c.registers.pc → BothStep code two c.registers d.registers →
         Agree code size (step_at (gate_at c.registers.pc) i c (my_config code two o)) (step_at (gate_at d.registers.pc) i d (your_config code two o))
     in_code high steps =
-        let P : Option Gate → Type 0 = λ g. Agree code size
-        (step_at g i c (my_config code two o)) (step_at (gate_at d.registers.pc) i d (your_config code two o)) in
-        let Q : Option Gate → Type 0 = λ g. Agree code size
-        (step_at None i c (my_config code two o)) (step_at g i d (your_config code two o)) in
-        let none : gate_at c.registers.pc ≡ None = no_gate_above c.registers.pc high in
-        subst P (sym none) (subst Q (sym none ∙ ap (λ (x : ℕ). gate_at x) pcs)
-        (after_alike _ _ (step_bytes (my_memory code.bytes two) c.registers known.public) steps))
+        at_gates None (no_gate_above c.registers.pc high) (after_alike _ _ (step_bytes (my_memory code.bytes two) c.registers known.public) steps)
 
     -- a core of each that runs, wherever they stand
     stands_alike : Facts code → Standing code c.registers d.registers →
@@ -238,12 +239,7 @@ module _ (code : LabelledCode) (size : ℕ) (two : Two) (known : TwoAlike code s
     stands_alike facts (at_raise x) = in_code (omega (arith, x.here)) (raise_alike code facts two c.registers d.registers x)
     stands_alike facts (at_stage stage x) = in_code (omega (arith, x.here)) (stage_alike code facts two c.registers d.registers stage x)
     stands_alike facts (at_gate x) =
-        let P : Option Gate → Type 0 = λ g. Agree code size
-        (step_at g i c (my_config code two o)) (step_at (gate_at d.registers.pc) i d (your_config code two o)) in
-        let Q : Option Gate → Type 0 = λ g. Agree code size
-        (step_at (Some x.gate) i c (my_config code two o)) (step_at g i d (your_config code two o)) in
-        subst P (sym x.here) (subst Q (sym x.here ∙ ap (λ (n : ℕ). gate_at n) pcs)
-        (after_gates _ _ (gates_step code facts size x.gate two c.registers d.registers x.equal known)))
+        at_gates (Some x.gate) x.here (after_gates _ _ (gates_step code facts size x.gate two c.registers d.registers x.equal known))
 
   core_steps : Facts code → (i : ℕ) (oc od : Option Core) → PairAlike code oc od →
       Agree code size (step_core oc i (my_config code two o)) (step_core od i (your_config code two o))
