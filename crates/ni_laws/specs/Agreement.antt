@@ -222,8 +222,8 @@ config code common apart o = record {
   releasers = releasers_of common apart;
 }
 
--- Two configurations of a code are alike: their segments have that size. Their cores are alike. What they have in common is bytes.
--- The gates look for words of the code's prefix. The private outputs are of one length.
+-- What is so of two configurations of a code that agree. Their segments have the given size. Their cores are alike. What they have
+-- in common is bytes. The gates look for words of the code's prefix. The private outputs are of one length.
 pub record TwoAlike (code : LabelledCode) (size : ℕ) (two : Two) : Type 0 where
   pub size_is : two.common.size ≡ size
   pub cores : CoresAlike code two.mine.cores two.yours.cores
