@@ -214,3 +214,13 @@ plays_nothing classes audit Goes goes = record {
   listed = sym (append-nil audit);
   known = refl;
 }
+
+-- what follows of the model's steps follows of all that plays them
+pub plays_as : (failure : Option Request) (old new : Classes) (audit audit' : List ℕ) (Goes Goes' : Releasers → Releasers → Type 0)
+    → ((r s : Releasers) → r.held ≡ held_of old → Goes r s → Goes' r s) → Plays failure old new audit audit' Goes → Plays failure old new audit audit' Goes'
+plays_as failure old new audit audit' Goes Goes' follows p = record {
+  events = p.events;
+  goes = λ later held may. follows (put_back p.events later) (played p.events later) held (p.goes later held may);
+  listed = p.listed;
+  known = p.known;
+}

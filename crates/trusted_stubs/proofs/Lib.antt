@@ -1,2 +1,3 @@
 pub mod EventLemmas
+mod ReleaseLemmas
 mod WorkLemmas

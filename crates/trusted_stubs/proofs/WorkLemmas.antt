@@ -1,28 +1,23 @@
 -- Work that isn't refused, and what a gate step makes of it.
-use Rattle.std.proofs.Common.{◌≡◌, ◌∙◌, ℕ, ◌≤◌, Bool, true, false, ◌&&◌, cond, List, [], Option, Some, None, refl, sym, ap, subst, not, ◌%◌, ◌^◌}
-use Rattle.std.specs.Prelude.{nat_lt}
+use Rattle.std.proofs.Common.{◌≡◌, ◌∙◌, ℕ, ◌≤◌, Bool, true, false, ◌&&◌, cond, [], Option, Some, None, refl, sym, ap, subst, not, ◌%◌, ◌^◌}
+use Rattle.std.specs.Prelude.{nat_lt, IsTrue, slice_get, unwrap_or}
 use Rattle.std.specs.Int.{w32, cast_signed}
 use Rattle.std.proofs.lemmas.Bool.{and_parts, true≢false, ltb-false}
-use Rattle.std.proofs.lemmas.Option.{none-some}
+use Rattle.std.proofs.lemmas.Option.{none-some, unwrap_or-slice_get}
+use Rattle.cv_io.specs.Releasers.{Classes, held_of, is_held}
 use Rattle.cv_word.specs.declared.fault.FaultKind.{FaultKind}
 use Rattle.cv_word.specs.declared.gates.Arguments.{Arguments}
 use Rattle.cv_word.specs.declared.gates.Gate.{Gate}
 use Rattle.cv_word.specs.declared.gates.Gate.TheVariants.{Exit, CoreEnd, Release}
 use Rattle.cv_word.specs.declared.registers.Registers.{Registers}
 use Rattle.cv_word.specs.Memory.{Memory, Range}
-use Rattle.cv_word.specs.GateStep.{World, Releasers, Work, answers, ends, TapeState, refusal, reads, writes, is_good_range, passes_limit, lacks_releaser, after_work, returned, work, read_from, written_to}
+use Rattle.cv_word.specs.GateStep.{World, Releasers, Work, answers, ends, refusal, reads, writes, is_good_range, passes_limit, lacks_releaser, after_work, returned, work, read_from, written_to}
 use Rattle.trusted_stubs.specs.declared.end.GateEnd.{GateEnd}
 use Rattle.trusted_stubs.specs.declared.end.GateEnd.TheVariants.{Next}
 use Rattle.trusted_stubs.specs.declared.end.GateEnd.TheVariants as end
-use Rattle.trusted_stubs.specs.Answers.{WorkAnswers, GateStepsTo, changed, no_releasers}
+use Rattle.trusted_stubs.specs.Answers.{WorkAnswers, GateStepsTo, IsServed, changed}
 
 -- ---- refusals
-
--- a gate that doesn't refuse has good ranges, passes no limit and lacks no releaser
-pub record IsServed (size : ℕ) (gate : Gate) (a : Arguments) (w : World) : Type 0 where
-  pub reads_good : is_good_range size (reads gate a) ≡ true
-  pub writes_good : is_good_range size (writes gate a) ≡ true
-  pub within : passes_limit gate a w ≡ false
 
 no_fault : (bad past lacks : Bool) (x y z : FaultKind) → cond bad (Some x) (cond past (Some y) (cond lacks (Some z) None)) ≡ None → (bad ≡ false) × (past ≡ false) × (lacks ≡ false)
 no_fault true past lacks x y z e = absurd (none-some x (sym e))
@@ -42,26 +37,36 @@ parts_of_none size gate a w r e =
     let both = and_parts (is_good_range size (reads gate a)) (is_good_range size (writes gate a)) (not_not _ parts.0) in
     (record { reads_good = both.0; writes_good = both.1; within = parts.1 }, parts.2)
 
-no_tape : ℕ → TapeState
-no_tape class = record { left = record { bytes = []; releases = None }; taken = 0; answered = 0 }
+-- a gate that refuses with none of the releasers of these classes is served, and lacks none
+module _ (size : ℕ) (gate : Gate) (a : Arguments) (w : World) (classes : Classes)
+    (served : (r : Releasers) → r.held ≡ held_of classes → refusal size gate a w r ≡ None) where
+  some_releasers : Releasers
+  some_releasers = record {
+    held = held_of classes;
+    tapes = λ class. record { left = record { bytes = []; releases = None }; taken = 0; answered = 0 };
+    asked = λ class. [];
+  }
+
+  parts : IsServed size gate a w × (lacks_releaser gate a some_releasers ≡ false)
+  unfolding some_releasers
+  parts = parts_of_none size gate a w some_releasers (served some_releasers refl)
+
+  pub served_so : IsServed size gate a w
+  served_so = parts.0
+
+  pub served_as : (known : Gate) → gate ≡ known → IsServed size known a w
+  served_as known is = subst (λ (g : Gate). IsServed size g a w) is served_so
+
+  pub held_so : gate ≡ Release → IsTrue (is_held (held_of classes) a.fourth)
+  unfolding some_releasers
+  held_so is =
+      let lacks : not (unwrap_or (slice_get (held_of classes) a.fourth) false) ≡ false = subst (λ (g : Gate). lacks_releaser g a some_releasers ≡ false) is parts.1 in
+      let has : is_held (held_of classes) a.fourth ≡ true = sym (unwrap_or-slice_get (held_of classes) a.fourth false) ∙ not_not _ lacks in
+      has
 
 -- what is so of a gate that was found to be this one
-module _ (size : ℕ) (gate known : Gate) (a : Arguments) (w : World) (is : gate ≡ known)
-    (served : (tapes : ℕ → TapeState) (asked : ℕ → List ℕ) → refusal size gate a w (no_releasers tapes asked) ≡ None) where
-  refused_not : refusal size known a w (no_releasers no_tape (λ class. [])) ≡ None
-  refused_not =
-      let P : Gate → Type 0 = λ g. refusal size g a w (no_releasers no_tape (λ class. [])) ≡ None in
-      subst P is (served no_tape (λ class. []))
-
-  pub is_served : IsServed size known a w
-  is_served = (parts_of_none size known a w (no_releasers no_tape (λ class. [])) refused_not).0
-
--- a release is refused, since no class has a releaser
-pub no_release : (size : ℕ) (gate : Gate) (a : Arguments) (w : World) → gate ≡ Release →
-    ((tapes : ℕ → TapeState) (asked : ℕ → List ℕ) → refusal size gate a w (no_releasers tapes asked) ≡ None) → ⊥
-no_release size gate a w is served =
-    let P : Gate → Type 0 = λ g. refusal size g a w (no_releasers no_tape (λ class. [])) ≡ None in
-    true≢false (parts_of_none size Release a w (no_releasers no_tape (λ class. [])) (subst P is (served no_tape (λ class. [])))).1
+pub is_served : (size : ℕ) (gate known : Gate) (a : Arguments) (w : World) → gate ≡ known → IsServed size gate a w → IsServed size known a w
+is_served size gate known a w is served = subst (λ (g : Gate). IsServed size g a w) is served
 
 -- what passes no limit has room
 pub has_room : (most total : ℕ) → nat_lt most total ≡ false → total ≤ most
@@ -72,7 +77,7 @@ has_room most total e = ltb-false most total e
 same_changed : (s s' : Registers) (m m' : Memory) (w w' : World) (r r' : Releasers) → s ≡ s' → m ≡ m' → w ≡ w' → r ≡ r' → changed s m w r ≡ changed s' m' w' r'
 same_changed s s' m m' w w' r r' a b c d = cc
 
-settled : (k : Work) (answer next : ℕ) (range : Option Range) (s s' : Registers) (m m' : Memory) (w w' : World) (r r' : Releasers) → WorkAnswers k answer range m m' w' r' →
+pub settled : (k : Work) (answer next : ℕ) (range : Option Range) (s s' : Registers) (m m' : Memory) (w w' : World) (r r' : Releasers) → WorkAnswers k answer range m m' w' r' →
     s' ≡ returned answer next s → GateStepsTo (after_work k next range s m) Next (changed s m w r) (changed s' m' w' r')
 settled (answers n bytes v q) answer next range s s' m m' w w' r r' h e =
     same_changed s' (returned n next s) m' (written_to m range bytes) w' v r' q (e ∙ ap (λ (x : ℕ). returned x next s) h.0) h.1 h.2 h.3

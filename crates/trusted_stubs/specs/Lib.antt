@@ -9,5 +9,5 @@ pub use Rattle.cv_io.specs.Counts
 pub use Rattle.cv_io.specs.Releasers
 pub mod Outputs
 pub mod Worlds
-pub mod Answers
 pub mod Events
+pub mod Answers

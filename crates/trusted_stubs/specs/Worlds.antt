@@ -1,6 +1,6 @@
 -- The gates' world that a program's buffers hold.
-use Rattle.std.specs.Prelude.{◌≤◌, length}
-use Rattle.cv_word.specs.GateStep.{World}
+use Rattle.std.specs.Prelude.{◌≡◌, ◌≤◌, length}
+use Rattle.cv_word.specs.GateStep.{World, longest_release}
 use Rattle.trusted_stubs.specs.declared.world.World.TheInside.{Inside}
 
 abbrev pub world_of : Inside → World
@@ -19,6 +19,7 @@ world_of w = record {
   private_output = w.private_output;
 }
 
--- the public input was read up to its end at most
+-- the public input was read up to its end at most, and the buffer for answers is as long as the longest release
 pub record IsWithin (w : Inside) : Type 0 where
   pub position : w.public_position ≤ length w.public_input.now
+  pub buffer : length w.answer.items ≡ longest_release

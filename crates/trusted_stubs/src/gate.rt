@@ -1,17 +1,21 @@
 //! The gate step.
 
-ghost use Rattle.std.specs.Prelude.{◌≡◌, ℕ, ◌%◌, ◌<◌, ◌^◌, IfOk, List, true};
+ghost use Rattle.std.specs.Prelude.{◌≡◌, ◌≢◌, ◌%◌, ◌<◌, ◌^◌, IfOk, None, true};
 ghost use Rattle.std.specs.Int.{w32, cast_signed};
-ghost use Rattle.cv_word.specs.GateStep.{Releasers, TapeState, after_work, arguments_of, gate_step, read_from, reads, refusal, returned, stands_in_code, work, writes};
-ghost use Rattle.trusted_stubs.specs.Answers.{GateStepsTo, changed, from_place, no_releasers};
+ghost use Rattle.cv_io.specs.Releasers.{classes_by, held_of};
+ghost use Rattle.cv_word.specs.GateStep.{Releasers, after_work, arguments_of, gate_step, read_from, reads, refusal, returned, stands_in_code, work, writes};
+ghost use Rattle.trusted_stubs.specs.Answers.{GateStepsTo, IsServed, changed, failure_of, from_place, request_of};
+ghost use Rattle.trusted_stubs.specs.Events.{Plays};
 
 use crate::end::GateEnd;
 use crate::refusal::refusal;
+use crate::release::release;
 use crate::work::{
     alloc_private, alloc_public, free_private, free_public, get_private, put_private, read_private,
     read_public, write_private, write_public,
 };
 use crate::world::World;
+use cv_io::Trusted;
 use cv_word::{Arguments, CODE_BASE, FaultKind, Gate, Registers, result_bit};
 use magic_words::return_word;
 use two_segments::Segments;
@@ -33,23 +37,29 @@ const RDI: usize = 7;
 /// The gate step of a core: the gate does its work, and the core goes on behind the return word at which it waits. A fault
 /// changes nothing: Memory where the address at rsp is unmapped, GateReturn where the gate's return word doesn't stand there,
 /// Range for a range that isn't mapped, OutLimit for an output that would pass its limit, and NoReleaser for a class without a
-/// releaser, the first of these. So far no class has one. It takes no memory.
+/// releaser, the first of these.
+///
+/// A release asks the releaser of its class once. `Tape` comes only where that releaser's count of faults rose, and its
+/// `failed_len` is then the length asked, which is rdx; nothing else changes. With any other end each count is as before.
+///
+/// It takes no memory but what a releaser takes itself.
 pub fn gate_step(
     gate: Gate,
     regs: &mut Registers,
     segs: &mut Segments<'_>,
     world: &mut World<'_>,
+    trusted: &mut Vec<Option<Box<dyn Trusted>>>,
 ) -> GateEnd
-    ensures { (tapes : ℕ → TapeState) (asked : ℕ → List ℕ) → GateStepsTo (gate_step gate regs.old segs.old world.old (no_releasers tapes asked)) result (changed regs.old segs.old world.old (no_releasers tapes asked)) (changed regs.new segs.new world.new (no_releasers tapes asked)) }
+    ensures { Plays (failure_of result regs.old) (classes_by known trusted.old.items) (classes_by known trusted.new.items) world.old.visible.audit world.new.visible.audit (λ before after. GateStepsTo (gate_step gate regs.old segs.old world.old before) result (changed regs.old segs.old world.old before) (changed regs.new segs.new world.new after)) }
 {
     let at = match waiting_place(gate, regs, segs, world) {
         Ok(at) => at,
         Err(kind) => return GateEnd::Fault(kind),
     };
     let a = arguments(regs);
-    match refusal(gate, a, segs, world) {
+    match refusal(gate, a, segs, world, trusted) {
         Some(kind) => GateEnd::Fault(kind),
-        None => do_work(gate, a, at + 8, regs, segs, world),
+        None => do_work(gate, a, at + 8, regs, segs, world, trusted),
     }
 }
 
@@ -110,8 +120,31 @@ fn do_work(
     regs: &mut Registers,
     segs: &mut Segments<'_>,
     world: &mut World<'_>,
+    trusted: &mut Vec<Option<Box<dyn Trusted>>>,
 ) -> GateEnd
-    requires { (tapes : ℕ → TapeState) (asked : ℕ → List ℕ) → refusal segs.old.size gate a world.old (no_releasers tapes asked) ≡ None }
+    requires { (r : Releasers) → r.held ≡ held_of (classes_by known trusted.old.items) → refusal segs.old.size gate a world.old r ≡ None }
+    ensures { Plays (request_of result a) (classes_by known trusted.old.items) (classes_by known trusted.new.items) world.old.visible.audit world.new.visible.audit (λ before after. GateStepsTo (after_work (work gate a (read_from segs.old (reads gate a)) world.old before) next (writes gate a) regs.old segs.old) result (changed regs.old segs.old world.old before) (changed regs.new segs.new world.new after)) }
+{
+    match gate {
+        Gate::Release => match release(a, segs, world, trusted) {
+            Ok(answer) => go_on(answer, next, regs),
+            Err(_fault) => GateEnd::Tape(a.fourth),
+        },
+        _ => do_other(gate, a, next, regs, segs, world),
+    }
+}
+
+/// Does the work of a gate other than Release.
+fn do_other(
+    gate: Gate,
+    a: Arguments,
+    next: u64,
+    regs: &mut Registers,
+    segs: &mut Segments<'_>,
+    world: &mut World<'_>,
+) -> GateEnd
+    requires other { gate ≢ Gate.Release }
+    requires served { IsServed segs.old.size gate a world.old }
     ensures { (r : Releasers) → GateStepsTo (after_work (work gate a (read_from segs.old (reads gate a)) world.old r) next (writes gate a) regs.old segs.old) result (changed regs.old segs.old world.old r) (changed regs.new segs.new world.new r) }
 {
     match gate {

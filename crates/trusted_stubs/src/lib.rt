@@ -1,13 +1,19 @@
 //! The gates: what happens where a core's program counter is a gate's address.
 //!
 //! [`gate_step`] is the gate step, exactly as the function `gate_step` of `cv_word`'s specs says, over the registers of a core, the
-//! memory and the gates' [`World`]. It takes no memory.
+//! memory, the gates' [`World`] and the releasers of all classes. It takes no memory but what a releaser takes itself.
+//!
+//! The model's releasers answer from tapes. A step is the model's for every tape that begins with what a releaser told during it,
+//! and what each releaser has heard and told, and what the audit lists, has grown by exactly that (`Plays`). A step ends with
+//! `Tape` only where the releaser that it asked has counted a fault and kept the length asked. With any other end each count of
+//! faults is as before.
 #![tactic(auto)]
 
 mod end;
 mod gate;
 mod output;
 mod refusal;
+mod release;
 mod work;
 mod world;
 

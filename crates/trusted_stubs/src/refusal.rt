@@ -1,31 +1,30 @@
 //! Why a gate refuses.
 
-ghost use Rattle.std.specs.Prelude.{◌≡◌, ℕ, ◌&&◌, List};
-ghost use Rattle.cv_word.specs.GateStep.{TapeState, is_good_range, passes_limit, reads, refusal, writes};
-ghost use Rattle.trusted_stubs.specs.Answers.{no_releasers};
+ghost use Rattle.std.specs.Prelude.{◌≡◌, ◌&&◌};
+ghost use Rattle.cv_io.specs.Releasers.{classes_by, held_of};
+ghost use Rattle.cv_word.specs.GateStep.{Releasers, is_good_range, lacks_releaser, passes_limit, reads, refusal, writes};
 
-use crate::world::World;
+use crate::world::{LONGEST_RELEASE, World};
+use cv_io::{Trusted, is_held};
 use cv_word::{Arguments, FaultKind, Gate};
 use two_segments::Segments;
 
-/// The most bytes of one release.
-const LONGEST_RELEASE: u64 = 65_536;
-
-/// Why a gate refuses: Range, then OutLimit, then NoReleaser. So far no class has a releaser.
+/// Why a gate refuses: Range, then OutLimit, then NoReleaser.
 #[tactic(auto, unfolding(cv_word::specs::GateStep::refusal))]
 pub(crate) fn refusal(
     gate: Gate,
     a: Arguments,
     segs: &Segments<'_>,
     world: &World<'_>,
+    trusted: &Vec<Option<Box<dyn Trusted>>>,
 ) -> Option<FaultKind>
-    ensures { (tapes : ℕ → TapeState) (asked : ℕ → List ℕ) → result ≡ refusal segs.now.size gate a world.now (no_releasers tapes asked) }
+    ensures { (r : Releasers) → r.held ≡ held_of (classes_by known trusted.now.items) → result ≡ refusal segs.now.size gate a world.now r }
 {
     if !has_good_ranges(gate, a, segs) {
         Some(FaultKind::Range)
     } else if passes_limit(gate, a, world) {
         Some(FaultKind::OutLimit)
-    } else if gate == Gate::Release {
+    } else if lacks_releaser(gate, a, trusted) {
         Some(FaultKind::NoReleaser)
     } else {
         None
@@ -64,7 +63,17 @@ fn passes_limit(gate: Gate, a: Arguments, world: &World<'_>) -> bool
         Gate::PubOut => world.public_output.is_passed_by(a.second),
         Gate::PrivOut => world.private_output.is_passed_by(a.second),
         Gate::PrivPut => world.private_output.is_passed_by(8),
-        Gate::Release => a.third > LONGEST_RELEASE || world.audit.is_passed_by(8 + a.third),
+        Gate::Release => a.third > LONGEST_RELEASE as u64 || world.audit.is_passed_by(8 + a.third),
+        _ => false,
+    }
+}
+
+/// Whether a release is asked of a class that has no releaser.
+fn lacks_releaser(gate: Gate, a: Arguments, trusted: &Vec<Option<Box<dyn Trusted>>>) -> bool
+    ensures { (r : Releasers) → r.held ≡ held_of (classes_by known trusted.now.items) → result ≡ lacks_releaser gate a r }
+{
+    match gate {
+        Gate::Release => !is_held(trusted, a.fourth),
         _ => false,
     }
 }

@@ -1,6 +1,6 @@
 //! What the gates keep of a run.
 
-ghost use Rattle.std.specs.Prelude.{◌≡◌, [], IfOk};
+ghost use Rattle.std.specs.Prelude.{◌≡◌, [], IfOk, length};
 ghost use Rattle.cv_word.specs.GateStep.{copied};
 
 use crate::output::Output;
@@ -9,8 +9,11 @@ use std::alloc::Global;
 use std::marker::Model;
 use two_heaps::Heap;
 
-/// What the gates keep of a run: both inputs and the position in each, both heaps, both outputs, and the audit. Contracts see
-/// it as the record `World` of `cv_word`.
+/// The most bytes of one release.
+pub(crate) const LONGEST_RELEASE: usize = 65_536;
+
+/// What the gates keep of a run: both inputs and the position in each, both heaps, both outputs, the audit, and a buffer for
+/// the answer of a releaser. Contracts see it as the record `World` of `cv_word`, which says nothing of the buffer.
 #[derive(Drop)]
 pub struct World<'a> {
     pub(crate) prefix: [u8; 6],
@@ -23,6 +26,8 @@ pub struct World<'a> {
     pub(crate) public_output: Output,
     pub(crate) private_output: Output,
     pub(crate) audit: Output,
+    /// Its front takes the answer of a releaser.
+    pub(crate) answer: Vec<u8>,
 }
 
 impl<'a> Model for World<'a> {
@@ -74,6 +79,7 @@ impl<'a> World<'a> {
             public_output: Output::new(alloc)?,
             private_output: Output::new(alloc)?,
             audit: Output::new(alloc)?,
+            answer: zeros(alloc, LONGEST_RELEASE)?,
         })
     }
 
@@ -112,4 +118,11 @@ impl<'a> World<'a> {
     {
         self.audit.bytes()
     }
+}
+
+/// So many zeros.
+fn zeros(alloc: Global, count: usize) -> Result<Vec<u8>, NoMemory>
+    ensures { IfOk result (λ v. length v.items ≡ count) }
+{
+    Ok(vec![in alloc; 0u8; count]?)
 }
