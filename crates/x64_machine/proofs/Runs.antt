@@ -13,11 +13,11 @@ unfolding step
 step-ended i c e = rw e refl
 
 -- an ended run stays as it is under any schedule
-run-ended : (schedule : List ℕ) (c : Configuration) → is_running c.state.outcome ≡ false → run schedule c ≡ c
+pub run-ended : (schedule : List ℕ) (c : Configuration) → is_running c.state.outcome ≡ false → run schedule c ≡ c
 run-ended [] c e = refl
 run-ended (i ∷ schedule) c e = ap (λ (d : Configuration). run schedule d) (step-ended i c e) ∙ run-ended schedule c e
 
-ended_not_running : (o : Outcome) → progress_of o ≡ progress.Ended → is_running o ≡ false
+pub ended_not_running : (o : Outcome) → progress_of o ≡ progress.Ended → is_running o ≡ false
 ended_not_running outcome.Running e = absurd (cc)
 ended_not_running (outcome.Exited status) e = refl
 ended_not_running (outcome.Fault core at kind) e = refl
@@ -45,7 +45,7 @@ turns_next n j count h =
     let more : count - j ≡ suc (count - suc j) = omega arith in
     rw more refl
 
-turns_empty : (n j count : ℕ) → count ≡ 0 → turns n j count ≡ []
+pub turns_empty : (n j count : ℕ) → count ≡ 0 → turns n j count ≡ []
 unfolding turns
 turns_empty n j count none = rw none refl
 

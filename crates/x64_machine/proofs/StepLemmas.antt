@@ -95,3 +95,16 @@ pub stepped_nowhere : (cores : List Core) (i : ℕ) (d : Core) (c : Configuratio
 stepped_nowhere cores i d c inside runs low none =
     ap (λ (e : Effect). after_step e i (get_or cores i d) c) (sym (outside c.state.memory (get_or cores i d).registers low))
     ∙ ap (λ (g : Option Gate). step_at g i (get_or cores i d) c) (sym none) ∙ at_counter cores i d c inside runs
+
+-- a core that isn't there, or has ended, takes no step
+pub idle_past : (cores : List Core) (i : ℕ) (c : Configuration) → length cores ≤ i → c ≡ step_core (slice_get cores i) i c
+idle_past cores i c h = sym (ap (λ (o : Option Core). step_core o i c) (slice_get_past cores i h))
+
+ended_stays : (ended : Bool) (x y : Configuration) → ended ≡ true → y ≡ (if ended then y else x)
+ended_stays true x y e = refl
+ended_stays false x y e = absurd (cc)
+
+pub idle_ended : (cores : List Core) (i : ℕ) (d : Core) (c : Configuration) → i < length cores → (get_or cores i d).ended ≡ true → c ≡ step_core (slice_get cores i) i c
+idle_ended cores i d c inside ended =
+    rw (slice_get-get_or cores i d inside)
+    (ended_stays (get_or cores i d).ended (step_at (gate_at (get_or cores i d).registers.pc) i (get_or cores i d) c) c ended)

@@ -9,6 +9,9 @@ pub use Rattle.cv_word.specs.Memory
 pub use Rattle.cv_word.specs.Heap
 pub use Rattle.cv_word.specs.GateStep
 pub use Rattle.two_segments.specs.Access
+pub use Rattle.cv_io.specs.Counts
+pub use Rattle.cv_io.specs.Releasers
+pub use Rattle.trusted_stubs.specs.Events
 pub use Rattle.x64_alu.specs.CoreStep
 pub use Rattle.magic_words.specs.MagicWords
 pub use Rattle.code_sweep.specs.Units
@@ -28,4 +31,5 @@ pub mod Start
 pub mod Entries
 pub mod Fields
 pub mod Endings
+pub mod Failures
 pub mod Noninterference

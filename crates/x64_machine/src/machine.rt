@@ -1,10 +1,12 @@
 //! The machine, and its steps.
 
-ghost use Rattle.std.specs.Prelude.{◌≡◌, ◌+◌, ◌<◌, ◌%◌, ◌≤◌, length, IfOk};
-ghost use Rattle.x64_machine.specs.Run.{configuration, run, step};
-ghost use Rattle.x64_machine.specs.Start.{none, start_state};
+ghost use Rattle.std.specs.Prelude.{◌≡◌, ◌+◌, ◌<◌, ◌%◌, ◌≤◌, [], ◌∷◌, false, length, IfOk};
+ghost use Rattle.cv_io.specs.Releasers.{classes_by};
+ghost use Rattle.x64_machine.specs.Run.{is_running};
+ghost use Rattle.x64_machine.specs.Start.{start_state};
 ghost use Rattle.x64_machine.specs.Entries.{entries, turns};
 ghost use Rattle.x64_machine.specs.Endings.{progress_of};
+ghost use Rattle.x64_machine.specs.Failures.{HasRun};
 
 use crate::cores::{Core, first_cores};
 use crate::memory::{first_segments, first_world};
@@ -12,6 +14,7 @@ use crate::outcome::Outcome;
 use crate::schedule::{Progress, Schedule};
 use crate::step::step_one;
 use conf_verify::Verified;
+use cv_io::Trusted;
 use cv_word::NoMemory;
 use std::alloc::Global;
 use std::marker::Model;
@@ -66,39 +69,54 @@ impl<'a> Machine<'a> {
 
     /// One step of a core: an instruction, or the gate step where its program counter is a gate's. Nothing changes where the run
     /// has ended, or the core doesn't exist or has ended; a fault changes nothing but the outcome. Ended exactly where the run has
-    /// ended after the step. It takes no memory.
-    #[tactic(auto, unfolding(crate::specs::Run::step))]
-    pub fn step(&mut self, core: u8) -> Progress
-        ensures after { configuration self.new none ≡ step core (configuration self.old none) }
+    /// ended after the step. A release asks the releaser of its class; where that fails, the outcome is Tape. It takes no memory
+    /// but what a releaser takes for itself.
+    pub fn step(
+        &mut self,
+        core: u8,
+        trusted: &mut Vec<Option<Box<dyn Trusted>>>,
+    ) -> Progress
+        ensures after { HasRun (core ∷ []) (classes_by known trusted.old.items) (classes_by known trusted.new.items) self.old self.new }
         ensures progress { result ≡ progress_of self.new.outcome }
+        ensures ended { is_running self.old.outcome ≡ false → self.new ≡ self.old }
     {
         match self.outcome {
             Outcome::Running => {
-                self.outcome = step_one(&mut self.cores, &mut self.segments, &mut self.world, core);
+                self.outcome = step_one(
+                    &mut self.cores,
+                    &mut self.segments,
+                    &mut self.world,
+                    core,
+                    trusted,
+                );
                 progress(self.outcome)
             }
             _ => Progress::Ended,
         }
     }
 
-    /// All entries of a schedule in order, and the outcome after them. It takes no memory.
-    pub fn run(&mut self, s: Schedule<'_>) -> Outcome
-        ensures after { configuration self.new none ≡ run (entries s.entry (length self.old.cores)) (configuration self.old none) }
+    /// All entries of a schedule in order, and the outcome after them. It takes no memory but what a releaser takes for itself.
+    pub fn run(
+        &mut self,
+        s: Schedule<'_>,
+        trusted: &mut Vec<Option<Box<dyn Trusted>>>,
+    ) -> Outcome
+        ensures after { HasRun (entries s.entry (length self.old.cores)) (classes_by known trusted.old.items) (classes_by known trusted.new.items) self.old self.new }
         ensures outcome { result ≡ self.new.outcome }
     {
         match s {
-            Schedule::Bytes(cores) => self.run_bytes(cores),
-            Schedule::RoundRobin(count) => self.run_in_turn(count),
+            Schedule::Bytes(cores) => self.run_bytes(cores, trusted),
+            Schedule::RoundRobin(count) => self.run_in_turn(count, trusted),
         }
         self.outcome
     }
 
     /// A step for each byte, up to the end of the run.
-    fn run_bytes(&mut self, cores: &[u8])
-        ensures { configuration self.new none ≡ run cores.now (configuration self.old none) }
+    fn run_bytes(&mut self, cores: &[u8], trusted: &mut Vec<Option<Box<dyn Trusted>>>)
+        ensures { HasRun cores.now (classes_by known trusted.old.items) (classes_by known trusted.new.items) self.old self.new }
     {
         for core in cores {
-            match self.step(*core) {
+            match self.step(*core, trusted) {
                 Progress::Running => {}
                 Progress::Ended => return,
             }
@@ -106,13 +124,13 @@ impl<'a> Machine<'a> {
     }
 
     /// So many steps of the cores in turn, up to the end of the run.
-    fn run_in_turn(&mut self, count: u64)
-        ensures { configuration self.new none ≡ run (turns (length self.old.cores) 0 count) (configuration self.old none) }
+    fn run_in_turn(&mut self, count: u64, trusted: &mut Vec<Option<Box<dyn Trusted>>>)
+        ensures { HasRun (turns (length self.old.cores) 0 count) (classes_by known trusted.old.items) (classes_by known trusted.new.items) self.old self.new }
     {
         let n = self.cores.len() as u8;
         let mut core = 0;
         for _turn in 0..count {
-            match self.step(core) {
+            match self.step(core, trusted) {
                 Progress::Running => core = next_core(core, n),
                 Progress::Ended => return,
             }

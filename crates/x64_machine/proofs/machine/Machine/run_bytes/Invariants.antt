@@ -1,8 +1,10 @@
-use Rattle.std.proofs.Common.{◌≡◌, drop}
-use Rattle.x64_machine.specs.Run.{configuration, run}
-use Rattle.x64_machine.specs.Start.{none}
+use Rattle.std.proofs.Common.{drop}
+use Rattle.cv_io.specs.Releasers.{classes_by}
+use Rattle.x64_machine.proofs.MachineLemmas.{IsSoFar}
 use Rattle.x64_machine.proofs.machine.Machine.run_bytes.Given as goal
 
--- the rest of the schedule from here on is the whole schedule from the beginning
+-- the entries up to here were taken
 abbrev pub invariant-loop-core : goal.invariant-loop-core
-invariant-loop-core l = run (drop l.core-index l.cores) (configuration l.self none) ≡ run l.cores (configuration l.fn.self none)
+invariant-loop-core g l =
+    IsSoFar (drop l.core-index l.cores) l.cores (classes_by (λ z. (goal.Trusted-dyn g (z.vtable, z.value)).known z.value) l.fn.trusted.items)
+    (classes_by (λ z. (goal.Trusted-dyn g (z.vtable, z.value)).known z.value) l.trusted.items) l.fn.self l.self
