@@ -14,6 +14,8 @@ mod gate;
 mod output;
 mod refusal;
 mod release;
+#[cfg(test)]
+mod tests;
 mod work;
 mod world;
 
