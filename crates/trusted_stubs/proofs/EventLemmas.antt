@@ -1,5 +1,5 @@
 -- Events that are put back and played, one list after another.
-use Rattle.std.proofs.Common.{◌≡◌, ◌∙◌, ℕ, zero, suc, ◌+◌, arith, add_assoc, cond, eqb, eq-eqb, eqb-true, true, false, List, [], ◌∷◌, ◌++◌, append_assoc, append-nil, length, length-append, length-set, Option, Some, None, get_or, slice_get, slice_set, is_some, refl, sym, ap, ap₂, subst, subst₂, flat_map, inl, inr}
+use Rattle.std.proofs.Common.{◌≡◌, ◌∙◌, ℕ, zero, suc, ◌+◌, arith, add_assoc, cond, eqb, eq-eqb, eqb-true, true, false, List, [], ◌∷◌, ◌++◌, append_assoc, append-nil, length, length-append, length-set, Option, Some, None, get_or, slice_get, slice_set, is_some, refl, sym, ap, ap₂, subst, subst₂, flat_map, inl, inr, Bool}
 use borrow.Author.Tests.{eqb-false}
 use Rattle.std.specs.Option.{option_map}
 use Rattle.std.proofs.Math.Path.{fun_ext}
@@ -8,7 +8,7 @@ use Rattle.std.proofs.lemmas.Bool.{cases_Bool}
 use Rattle.std.proofs.lemmas.List.Elements.{filter-append}
 use Rattle.std.proofs.lemmas.Grind.{flat_map-append}
 use Rattle.cv_word.specs.GateStep.{Releasers, TapeState, audit_entry}
-use Rattle.cv_io.specs.Releasers.{Known, Classes, held_of}
+use Rattle.cv_io.specs.Releasers.{Known, Classes, held_of, is_held}
 use Rattle.trusted_stubs.specs.Events.{Event, Request, Plays, FailsAt, IsKnownAfter, MayFollow, after_event, asked_of, audit_of, behind_answers, grown, known_after, of_class, played, put_back, told_by, with_answers}
 
 -- ---- lists of events
@@ -202,6 +202,9 @@ plays_on failure a b c x y z Goes Goes' Goes'' chain p q =
           (p.goes (put_back fs later) held tt)
           (q.goes (played es later) held' (may_follow-played failure es later may)));
       listed = q.listed ∙ ap (λ l. l ++ audit_of fs) p.listed ∙ append_assoc x (audit_of es) (audit_of fs) ∙ ap (λ l. x ++ l) (sym (audit_of-append es fs));
+      served = λ class unheld.
+          let unheld' : is_held (held_of b) class ≡ false = ap (λ (held : List Bool). is_held held class) (ap held_of p.known ∙ held_of-known_after es a) ∙ unheld in
+          of_class-append class es fs ∙ ap₂ (λ (l m : List Event). l ++ m) (p.served class unheld) (q.served class unheld');
       known = known_on failure es fs a b c p.known q.known;
     }
 
@@ -212,6 +215,7 @@ plays_nothing classes audit Goes goes = record {
   events = [];
   goes = λ later held may. subst₂ Goes (sym (nothing_put_back later)) (sym (nothing_played later)) (goes later held);
   listed = sym (append-nil audit);
+  served = λ class unheld. refl;
   known = refl;
 }
 
@@ -222,5 +226,6 @@ plays_as failure old new audit audit' Goes Goes' follows p = record {
   events = p.events;
   goes = λ later held may. follows (put_back p.events later) (played p.events later) held (p.goes later held may);
   listed = p.listed;
+  served = p.served;
   known = p.known;
 }

@@ -1,10 +1,10 @@
 -- A release, by what its releaser was asked and answered, and the other gates, which ask none.
-use Rattle.std.proofs.Common.{◌≡◌, ◌∙◌, ℕ, ◌+◌, ◌-◌, ◌==◌, ◌||◌, ◌≤◌, arith, cond, eqb, ltb-false, length-take, true≢false, eq-eqb, eqb-true, le-ltb, length, length-append, Bool, true, false, List, [], ◌∷◌, ◌++◌, append-nil, take, drop, Option, Some, None, Result, Ok, Err, unwrap_or, slice_set, refl, sym, ap, ap₂, subst, subst₂, flat_map, inl, inr, ◌≢◌}
+use Rattle.std.proofs.Common.{◌≡◌, ◌∙◌, ℕ, ◌+◌, ◌-◌, ◌==◌, ◌||◌, ◌≤◌, arith, cond, eqb, ltb-false, length-take, true≢false, eq-eqb, eqb-true, le-ltb, length, length-append, Bool, true, false, List, [], ◌∷◌, ◌++◌, append-nil, take, drop, Option, Some, None, Result, Ok, Err, unwrap_or, slice_set, refl, sym, ap, ap₂, subst, subst₂, flat_map, inl, inr, ◌≢◌, zero, suc, slice_get, is_some}
 use borrow.Author.Tests.{eqb-false, ne_eqb}
 use Rattle.std.specs.Option.{option_map}
 use Rattle.std.proofs.Math.Path.{fun_ext}
 use Rattle.std.proofs.lemmas.Bool.{cases_Bool}
-use Rattle.std.proofs.lemmas.Option.{get_or_from_slice_get}
+use Rattle.std.proofs.lemmas.Option.{get_or_from_slice_get, none-some, same_Some}
 use Rattle.std.proofs.lemmas.Grind.{common_steps}
 use Rattle.cv_word.specs.Memory.{Memory, Range, range_written}
 use Rattle.cv_word.specs.declared.gates.Arguments.{Arguments}
@@ -13,7 +13,7 @@ use Rattle.cv_word.specs.declared.gates.Gate.TheVariants as gate
 use Rattle.cv_word.specs.declared.registers.Registers.{Registers}
 use Rattle.cv_word.specs.declared.fault.FaultKind.{FaultKind}
 use Rattle.cv_word.specs.GateStep.{GateEffect, Releasers, arguments_of, faults, gate_step, refusal, unless_refused, TapeState, Work, World, advanced, after_release, after_work, answers, audit_entry, ends, ends_core, exits, is_short, public_range, releases_to, runs_out, with_audit, with_class, with_visible, passes_limit, work, writes}
-use Rattle.cv_io.specs.Releasers.{Asks, Classes, held_of}
+use Rattle.cv_io.specs.Releasers.{Asks, Classes, Known, held_of, is_held}
 use Rattle.trusted_stubs.specs.declared.end.GateEnd.{GateEnd}
 use Rattle.trusted_stubs.specs.declared.end.GateEnd.TheVariants as end
 use Rattle.trusted_stubs.specs.Answers.{Changed, GateStepsTo, ReleaseAnswers, WorkAnswers, changed, from_place, request_of}
@@ -186,6 +186,21 @@ Released result a source m m' w w' before after = ReleaseAnswers (work gate.Rele
 abbrev pub audited : World → List ℕ → World
 audited w audit = with_visible w (record w.visible { audit = audit })
 
+-- a class of which something is known has a releaser
+is_held_where : (classes : Classes) (class : ℕ) (k : Known) → slice_get classes class ≡ Some (Some k) → is_held (held_of classes) class ≡ true
+is_held_where [] class k e = absurd (none-some (Some k) e)
+is_held_where (x ∷ xs) zero k e = ap is_some (same_Some x (Some k) e)
+is_held_where (x ∷ xs) (suc class) k e = is_held_where xs class k e
+
+-- a class that has none is another than that of the event
+only_of : (at class : ℕ) (e : Event) → e.class ≡ at → (old : Classes) (k : Known) → slice_get old at ≡ Some (Some k) → is_held (held_of old) class ≡ false → of_class class (e ∷ []) ≡ []
+only_of at class e is old k was unheld = elim (cases_Bool (eqb e.class class)) [
+  | inl same ↦
+      let there : at ≡ class = sym is ∙ eqb-true e.class class same in
+      absurd (true≢false (sym (is_held_where old at k was) ∙ ap (λ (c : ℕ). is_held (held_of old) c) there ∙ unheld))
+  | inr other ↦ ap (λ (b : Bool). cond b (e ∷ []) []) other
+]
+
 -- an answer of a releaser, in memory and in the audit
 pub answered_release : {T F : Type 0} (E : Type 0) (ok : T) (a : Arguments) (source told : List ℕ) (m m' : Memory) (v w : World) (audit : List ℕ) (old new : Classes)
     → v ≡ w → length told ≡ a.third → Asks {T = T} {E = F} (Ok ok) a.fourth source told old new → m' ≡ range_written m (public_range a.second a.third) told
@@ -202,6 +217,7 @@ answered_release E ok a source told m m' v w audit old new is long asks memory l
           subst P (sym (releases_so a.fourth a.third source told (sym long) w later)) (refl, memory, world, refl);
       listed =
           listed' ∙ ap (λ l. w.visible.audit ++ l) (ap (λ n. audit_entry a.fourth n told) (sym long) ∙ sym (append-nil (audit_entry a.fourth (length told) told)));
+      served = λ class unheld. only_of a.fourth class e refl old asks.before asks.was_held unheld;
       known =
           asks.is_set
           ∙ ap (λ o. slice_set old a.fourth o) (ap Some asks.releases ∙ sym (ap (option_map (grown e)) (get_or_from_slice_get old a.fourth (Some asks.before) None asks.was_held)));
@@ -220,6 +236,7 @@ failed_release {E = E} fault fault' a source told m m' w w' old new long asks me
       (answers a.third (take a.third (later.tapes a.fourth).left.bytes) (with_audit w (audit_entry a.fourth a.third (take a.third (later.tapes a.fourth).left.bytes))) (after_release a.fourth a.third source later)) in
       subst₂ P (sym (nothing_put_back later)) (sym (nothing_played later)) (ap W may, memory, world, refl);
   listed = ap (λ (x : World). x.visible.audit) world ∙ sym (append-nil w.visible.audit);
+  served = λ class unheld. refl;
   known = record {
     before = asks.before;
     after = asks.after;

@@ -3,9 +3,9 @@
 -- The model's releasers answer from tapes, finished lists of bytes. Real ones answer as they like. So a run is told by its
 -- events, the releases that were answered, in order. Whatever the tapes answer later, the model's run begins with the answers
 -- put back before that, and ends with them played.
-use Rattle.std.specs.Prelude.{◌≡◌, ℕ, ◌+◌, ◌==◌, true, List, [], ◌∷◌, ◌++◌, length, filter, flat_map, Option, Some, None, get_or, slice_get, slice_set}
+use Rattle.std.specs.Prelude.{◌≡◌, ℕ, ◌+◌, ◌==◌, true, false, List, [], ◌∷◌, ◌++◌, length, filter, flat_map, Option, Some, None, get_or, slice_get, slice_set}
 use Rattle.std.specs.Option.{option_map}
-use Rattle.cv_io.specs.Releasers.{Known, HasFailed, Classes, held_of}
+use Rattle.cv_io.specs.Releasers.{Known, HasFailed, Classes, held_of, is_held}
 use Rattle.cv_word.specs.GateStep.{Releasers, TapeState, audit_entry, is_short}
 
 -- a release that was answered: its class, the source bytes that the releaser was asked with, and the bytes that it told
@@ -97,9 +97,11 @@ IsKnownAfter (Some request) events old new = FailsAt request (known_after events
 
 -- Some steps during which the releasers of all classes went from old to new and the audit from the first bytes to the second:
 -- whatever follows on the tapes, the steps of the model go from the releasers with the answers put back to those with them
--- played. The audit has grown by the answers. They end with this request, if any, unanswered.
+-- played. The audit has grown by the answers, and only classes that have a releaser answer. They end with this request, if any,
+-- unanswered.
 pub record Plays (failure : Option Request) (old new : Classes) (audit audit' : List ℕ) (Goes : Releasers → Releasers → Type 0) : Type 0 where
   pub events : List Event
   pub goes : (later : Releasers) → later.held ≡ held_of old → MayFollow failure later → Goes (put_back events later) (played events later)
   pub listed : audit' ≡ audit ++ audit_of events
+  pub served : (class : ℕ) → is_held (held_of old) class ≡ false → of_class class events ≡ []
   pub known : IsKnownAfter failure events old new
