@@ -1,3 +1,4 @@
+mod AskLemmas
 pub mod EventLemmas
 mod ReleaseLemmas
 mod WorkLemmas

@@ -18,6 +18,7 @@ use Rattle.trusted_stubs.specs.declared.end.GateEnd.{GateEnd}
 use Rattle.trusted_stubs.specs.declared.end.GateEnd.TheVariants as end
 use Rattle.trusted_stubs.specs.Answers.{Changed, GateStepsTo, ReleaseAnswers, WorkAnswers, changed, from_place, request_of}
 use Rattle.trusted_stubs.specs.Events.{Event, Plays, Request, behind_answers, grown, of_class, played, put_back, with_answers}
+use Rattle.trusted_stubs.proofs.AskLemmas.{front}
 use Rattle.trusted_stubs.proofs.EventLemmas.{nothing_played, nothing_put_back, plays_nothing}
 
 -- ---- asking
@@ -32,16 +33,8 @@ long_answer a w answer buffer within kept full =
     let few : a.third ≤ 65536 = ltb-false 65536 a.third (first_false _ _ within) in
     omega (arith, length-take a.third answer)
 
-front : (n : ℕ) (xs ys : List ℕ) → n ≡ length xs → take n (xs ++ ys) ≡ xs
-front n xs ys e = grind (arith, common_steps)
-
 back : (n : ℕ) (xs ys : List ℕ) → n ≡ length xs → drop n (xs ++ ys) ≡ ys
 back n xs ys e = grind (arith, common_steps)
-
--- an answer in the front of a slice
-pub Asks-front : {T E : Type 0} (answer : Result T E) (class : ℕ) (from to rest : List ℕ) (n : ℕ) (old new : Classes) → n ≡ length to → Asks answer class from to old new
-    → Asks answer class from (take n (to ++ rest)) old new
-Asks-front answer class from to rest n old new e asks = subst (λ (l : List ℕ). Asks answer class from l old new) (sym (front n to rest e)) asks
 
 whole : (n len : ℕ) (to items : List ℕ) → length to ≡ length items → len ≡ length items → take n to ≡ take n (take len (to ++ drop (length to) items))
 whole n len to items e f = grind (arith, common_steps)

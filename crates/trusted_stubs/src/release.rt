@@ -58,6 +58,7 @@ fn ask_with(
 }
 
 /// Asks the releaser of a class. The front of `to`, which is as long as `from`, takes its answer.
+#[tactic(auto, using(crate::proofs::AskLemmas::asks_front))]
 fn ask_front(
     trusted: &mut Vec<Option<Box<dyn Trusted>>>,
     class: u64,
