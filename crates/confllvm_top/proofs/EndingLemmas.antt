@@ -10,11 +10,14 @@ use Rattle.confllvm_top.specs.declared.status.Status.{Status}
 use Rattle.confllvm_top.specs.declared.status.Status.TheVariants.{Done, Refused, Usage, StoreFault, SinkFault, Fault, Steps, TrustFault, NoMemory}
 use Rattle.command_line.specs.Commands.{Command, RunFiles, Verify, Run, Disasm, IsCommand, name_of}
 use Rattle.confllvm_top.specs.Answers.{Answers, IsAnswer}
-use Rattle.confllvm_top.specs.Endings.{Outside, IsAbout, HasEnded, HasFailedToEnd, HasFailedToSave, HasNotLoaded, HasRunOut, HasNoMemory, IsChecked, IsFault, MissesInput, CarriesOut, Does}
+use Rattle.cv_io.specs.Releasers.{Classes, held_of}
+use Rattle.cv_word.specs.GateStep.{Tape}
+use Rattle.confllvm_top.specs.Released.{HasReleased, IsAsked, tapes_from}
+use Rattle.confllvm_top.specs.Endings.{AnswersAlways, AnswersWith, Outside, IsAbout, HasEnded, HasFailedToEnd, HasFailedToSave, HasNotLoaded, HasRunOut, HasNoMemory, IsChecked, IsFault, MissesInput, CarriesOut, Does}
 use Rattle.confllvm_top.specs.Inputs.{image_alone}
 use Rattle.confllvm_top.specs.Loading.{Loaded, HasInput, HasInputs, TellsInput, TellsInputs, TellsNamed, Lacks, LacksInput, LacksNamed, named_by}
 use Rattle.confllvm_top.specs.Plans.{Plan, HasFaulted, IsTold, IsCutOff, IsUnsaved, RanOut, PlanEnds}
-use Rattle.confllvm_top.specs.Statuses.{checks, is_passed, is_told}
+use Rattle.confllvm_top.specs.Statuses.{asks, checks, is_passed, is_told}
 use Rattle.confllvm_top.specs.Streams.{HasFailed}
 
 -- a piece of no bytes leaves a sink's bytes as they were
@@ -40,6 +43,9 @@ passed_told Usage e = e
 passed_told StoreFault e = e
 passed_told SinkFault e = e
 passed_told NoMemory e = e
+
+pub tells_class : (class : ℕ) (status : Status) → status ≡ TrustFault class → is_told status ≡ true
+tells_class class status e = ap (λ (s : Status). is_told s) e
 
 -- no command answers with a status that tells nothing
 pub no_answer : (status : Status) (command : Command) (loaded : Loaded) → is_told status ≡ false → Answers status command loaded → ⊥
@@ -100,11 +106,12 @@ OneCommand = (words : List (List ℕ)) (mine yours : Command) → IsCommand word
 -- a command with the bytes of its file
 module _ (words : List (List ℕ)) (o : Outside) (command : Command) (image : List ℕ) (result : Status)
     (said : IsCommand words command) (has : HasFile o.store.files_before (name_of command) image) where
-  about : (d : CarriesOut result command image o) → IsAbout words o.store.files_before d.status d.plan
+  about : (d : CarriesOut result command image o) → IsAbout words o d.status d.plan
   about d = record {
     command = command;
     loaded = d.loaded;
     are_loaded = record { said = said; has = subst (λ (b : List ℕ). HasFile o.store.files_before (name_of command) b) (sym d.image_is) has; inputs = d.inputs };
+    served = d.served;
     answer = d.answer;
   }
 
@@ -123,7 +130,7 @@ module _ (words : List (List ℕ)) (o : Outside) (command : Command) (image : Li
   pub ended-told : Does result command image o → is_told result ≡ true → HasEnded result words o
   ended-told does t =
       let c = carried_out does t in
-      record { plan = c.0.plan; about = subst (λ (s : Status). IsAbout words o.store.files_before s c.0.plan) (sym c.1) (about c.0); told = c.2 }
+      record { plan = c.0.plan; about = subst (λ (s : Status). IsAbout words o s c.0.plan) (sym c.1) (about c.0); told = c.2 }
 
   pub ended-checked : OneCommand → Does result command image o → (other : Command) → IsCommand words other → checks other ≡ true → is_passed result ≡ true →
       IsChecked words o.store.files_before other
@@ -204,13 +211,14 @@ same_input : (told : Option Files) (files : Files) (name : Option (List ℕ)) (m
 same_input told files None mine yours t h k = h ∙ sym k
 same_input told files (Some name) mine yours t h k = same_Some mine yours (sym (h.has files t) ∙ k)
 
-abbrev loaded_of : List ℕ → List ℕ → List ℕ → List ℕ → Loaded
-loaded_of image schedule public_input private_input = record { image = image; schedule = schedule; public_input = public_input; private_input = private_input }
+-- the same, with the tapes of another
+abbrev with_tapes : Loaded → Loaded → Loaded
+with_tapes a b = record a { tapes = b.tapes }
 
-same_loaded : (a b : Loaded) → a.image ≡ b.image → a.schedule ≡ b.schedule → a.public_input ≡ b.public_input → a.private_input ≡ b.private_input → a ≡ b
+same_loaded : (a b : Loaded) → a.image ≡ b.image → a.schedule ≡ b.schedule → a.public_input ≡ b.public_input → a.private_input ≡ b.private_input → a ≡ with_tapes b a
 same_loaded a b e f g h =
-    ap (λ (x : List ℕ). loaded_of x a.schedule a.public_input a.private_input) e ∙ ap (λ (x : List ℕ). loaded_of b.image x a.public_input a.private_input) f
-    ∙ ap (λ (x : List ℕ). loaded_of b.image b.schedule x a.private_input) g ∙ ap (λ (x : List ℕ). loaded_of b.image b.schedule b.public_input x) h
+    ap (λ (x : List ℕ). record a { image = x }) e ∙ ap (λ (x : List ℕ). record a { image = b.image; schedule = x }) f
+    ∙ ap (λ (x : List ℕ). record b { public_input = x; private_input = a.private_input; tapes = a.tapes }) g ∙ ap (λ (x : List ℕ). record b { private_input = x; tapes = a.tapes }) h
 
 -- what no answer but that of an accepted image depends on
 abbrev pub ByImage : Type 0
@@ -235,10 +243,10 @@ module _ (words : List (List ℕ)) (o : Outside) (command : Command) (image : Li
     (said : IsCommand words command) (has : HasFile o.store.files_before (name_of command) image) (by_image : ByImage) where
   -- a command that was carried out answers to what is told
   told_answer : (wanted : Loaded) → TellsNamed words o.store.files_before command wanted → (loaded : Loaded) → loaded.image ≡ image →
-      (IsAccepted loaded.image → HasInputs o.store.files_before (named_by command) loaded) → (status : Status) → Answers status command loaded → Answers status command wanted
+      (IsAccepted loaded.image → HasInputs o.store.files_before (named_by command) loaded) → (status : Status) → Answers status command loaded → Answers status command (with_tapes wanted loaded)
   told_answer wanted tells loaded image_is inputs status answers =
       let same : loaded.image ≡ wanted.image = image_is ∙ same_Some image wanted.image (sym (has.has tells.files tells.are_told) ∙ tells.has) in
-      by_image status command loaded wanted same
+      by_image status command loaded (with_tapes wanted loaded) same
       (λ accepted.
       let mine = inputs accepted in
       let yours = tells.inputs (subst (λ (b : List ℕ). IsAccepted b) same accepted) in
@@ -249,9 +257,13 @@ module _ (words : List (List ℕ)) (o : Outside) (command : Command) (image : Li
       answers
 
   plan_answered : (wanted : Loaded) → TellsNamed words o.store.files_before command wanted → (d : CarriesOut result command image o) →
-      PlanEnds result d.status d.plan o.out o.err o.store → Answers result command wanted ⊎ IsFault result o
+      PlanEnds result d.status d.plan o.out o.err o.store → AnswersWith result command wanted o ⊎ IsFault result o
   plan_answered wanted tells d (inl told) =
-      inl (subst (λ (s : Status). Answers s command wanted) (sym told.0) (told_answer wanted tells d.loaded d.image_is d.inputs d.status d.answer.answers))
+      inl (record {
+        tapes = d.loaded.tapes;
+        released = d.served.released;
+        answers = subst (λ (s : Status). Answers s command (with_tapes wanted d.loaded)) (sym told.0) (told_answer wanted tells d.loaded d.image_is d.inputs d.status d.answer.answers);
+      })
   plan_answered wanted tells d (inr (inl cut)) = inr (inr (inl (cut.0, elim cut.1 [ inl out ↦ inl out.0.1 | inr err ↦ inr err.2.1 ])))
   plan_answered wanted tells d (inr (inr (inl unsaved))) = inr (inl (unsaved.0, unsaved.1.faulted))
   plan_answered wanted tells d (inr (inr (inr none))) = inr (inr (inr none.0))
@@ -267,23 +279,23 @@ module _ (words : List (List ℕ)) (o : Outside) (command : Command) (image : Li
             (subst (λ (f : Files). LacksInput f (named_by command)) same told.2))
       ]
 
-  answered_here : (wanted : Loaded) → TellsNamed words o.store.files_before command wanted → Does result command image o → Answers result command wanted ⊎ IsFault result o
+  answered_here : (wanted : Loaded) → TellsNamed words o.store.files_before command wanted → Does result command image o → AnswersWith result command wanted o ⊎ IsFault result o
   answered_here wanted tells (inl none) = inr (inr (inr none.0))
   answered_here wanted tells (inr (inl missing)) = inr (inl (missing.0, not_missing wanted tells missing.1))
   answered_here wanted tells (inr (inr d)) = plan_answered wanted tells d d.ends
 
   pub ended-answered : OneCommand → Does result command image o → (other : Command) (wanted : Loaded) → TellsNamed words o.store.files_before other wanted →
-      Answers result other wanted ⊎ IsFault result o
+      AnswersWith result other wanted o ⊎ IsFault result o
   ended-answered one does other wanted tells =
       let same : other ≡ command = one words other command tells.said said in
-      subst (λ (c : Command). Answers result c wanted ⊎ IsFault result o) (sym same)
+      subst (λ (c : Command). AnswersWith result c wanted o ⊎ IsFault result o) (sym same)
       (answered_here wanted (subst (λ (c : Command). TellsNamed words o.store.files_before c wanted) same tells) does)
 
   pub ended-exact : OneCommand → ((c : Command) (l : Loaded) (mine yours : Status) → Answers mine c l → Answers yours c l → mine ≡ yours) → Does result command image o →
-      (other : Command) (wanted : Loaded) (status : Status) → TellsNamed words o.store.files_before other wanted → Answers status other wanted → (result ≡ status) ⊎ IsFault result o
+      (other : Command) (wanted : Loaded) (status : Status) → TellsNamed words o.store.files_before other wanted → AnswersAlways status other wanted o → (result ≡ status) ⊎ IsFault result o
   ended-exact one answer does other wanted status tells is =
       elim (ended-answered one does other wanted tells) [
-        | inl mine ↦ inl (answer other wanted result status mine is)
+        | inl mine ↦ inl (answer other (record wanted { tapes = mine.tapes }) result status mine.answers (is mine.tapes mine.released))
         | inr fault ↦ inr fault
       ]
 
@@ -295,18 +307,46 @@ risen_since first before after low risen = omega arith
 
 -- ---- what a command that has no inputs does
 
-no_inputs : (told : Option Files) (image : List ℕ) → HasInputs told (named_by (Verify [])) (image_alone image)
-no_inputs told image = record { schedule = refl; public_input = refl; private_input = refl }
+no_inputs : (told : Option Files) (image : List ℕ) (tapes : List (Option Tape)) → HasInputs told (named_by (Verify [])) (image_alone image tapes)
+no_inputs told image tapes = record { schedule = refl; public_input = refl; private_input = refl }
 
-pub does_alone : (command : Command) (image : List ℕ) (status result : Status) (plan : Plan) (o : Outside) → named_by command ≡ named_by (Verify []) → IsAnswer status command (image_alone image) plan →
-    PlanEnds result status plan o.out o.err o.store → Does result command image o
-does_alone command image status result plan o none answer ends = inr (inr (record {
-  loaded = image_alone image;
+-- the tapes where no releaser is asked
+abbrev pub quiet_tapes : Classes → List (Option Tape)
+quiet_tapes classes = tapes_from false [] 0 (held_of classes)
+
+abbrev pub nothing_released : (old new : Classes) → new ≡ old → HasReleased (quiet_tapes old) old new
+nothing_released old new same = record { events = []; failure = None; known = same; tapes_are = refl }
+
+no_one_asked : (status : Status) (command : Command) (loaded : Loaded) → asks command ≡ false → IsAsked status command loaded [] None
+no_one_asked (Refused rule at) command loaded e = (refl, refl)
+no_one_asked Done (Verify name) loaded e = (refl, refl)
+no_one_asked Done (Disasm name) loaded e = (refl, refl)
+no_one_asked Usage (Verify name) loaded e = (refl, refl)
+no_one_asked Usage (Disasm name) loaded e = (refl, refl)
+no_one_asked StoreFault (Verify name) loaded e = (refl, refl)
+no_one_asked StoreFault (Disasm name) loaded e = (refl, refl)
+no_one_asked SinkFault (Verify name) loaded e = (refl, refl)
+no_one_asked SinkFault (Disasm name) loaded e = (refl, refl)
+no_one_asked (Fault core at kind) (Verify name) loaded e = (refl, refl)
+no_one_asked (Fault core at kind) (Disasm name) loaded e = (refl, refl)
+no_one_asked (Steps used) (Verify name) loaded e = (refl, refl)
+no_one_asked (Steps used) (Disasm name) loaded e = (refl, refl)
+no_one_asked (TrustFault class) (Verify name) loaded e = (refl, refl)
+no_one_asked (TrustFault class) (Disasm name) loaded e = (refl, refl)
+no_one_asked NoMemory (Verify name) loaded e = (refl, refl)
+no_one_asked NoMemory (Disasm name) loaded e = (refl, refl)
+no_one_asked _ (Run name steps files) loaded e = absurd (cc)
+
+pub does_alone : (command : Command) (image : List ℕ) (status result : Status) (plan : Plan) (o : Outside) → named_by command ≡ named_by (Verify []) → asks command ≡ false → o.classes ≡ o.classes_before →
+    ((tapes : List (Option Tape)) → IsAnswer status command (image_alone image tapes) plan) → PlanEnds result status plan o.out o.err o.store → Does result command image o
+does_alone command image status result plan o none quiet same answer ends = inr (inr (record {
+  loaded = image_alone image (quiet_tapes o.classes_before);
   image_is = refl;
-  inputs = λ accepted. subst (λ (f : RunFiles). HasInputs o.store.files_before f (image_alone image)) (sym none) (no_inputs o.store.files_before image);
+  inputs = λ accepted. subst (λ (f : RunFiles). HasInputs o.store.files_before f (image_alone image (quiet_tapes o.classes_before))) (sym none) (no_inputs o.store.files_before image (quiet_tapes o.classes_before));
+  served = record { released = nothing_released o.classes_before o.classes same; asked = no_one_asked status command (image_alone image (quiet_tapes o.classes_before)) quiet };
   status = status;
   plan = plan;
-  answer = answer;
+  answer = answer (quiet_tapes o.classes_before);
   ends = ends;
 }))
 
@@ -325,3 +365,8 @@ lacks_named words told command name said same lacks = record {
   are_told = lacks.are_told;
   lacks = inl (ap (λ (n : List ℕ). lacks.files n) (sym same) ∙ lacks.lacks);
 }
+
+-- ---- the same command by another name
+
+pub does_as : (mine yours : Command) (result : Status) (image : List ℕ) (o : Outside) → mine ≡ yours → Does result mine image o → Does result yours image o
+does_as mine yours result image o same does = subst (λ (c : Command). Does result c image o) same does

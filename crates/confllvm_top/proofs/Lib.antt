@@ -4,3 +4,4 @@ pub mod LineLemmas
 pub mod PlanLemmas
 pub mod RunLemmas
 pub mod OneAnswer
+mod TapeLemmas

@@ -1,5 +1,5 @@
 -- A command has one answer to what it has loaded.
-use Rattle.std.proofs.Common.{◌≡◌, ◌∙◌, ℕ, ◌⊎◌, inl, inr, List, [], length, Option, refl, sym, ap, subst}
+use Rattle.std.proofs.Common.{◌≡◌, ◌∙◌, ℕ, ◌⊎◌, inl, inr, List, length, Option, Some, slice_get, refl, sym, ap, subst}
 use Rattle.image_form.specs.Image.{Image}
 use Rattle.image_form.proofs.Laws.{spelling_is_one}
 use Rattle.conf_verify.specs.declared.rule.Rule.{Rule}
@@ -7,8 +7,15 @@ use Rattle.code_sweep.specs.declared.item.Placed.{Placed}
 use Rattle.conf_verify.specs.Listed.{IsListed, IsUnlisted}
 use Rattle.conf_verify.specs.Verdict.{IsImage, IsAccepted, IsVerdict}
 use Rattle.cv_word.specs.GateStep.{Tape}
-use Rattle.x64_machine.specs.Run.{Configuration, run}
-use Rattle.x64_machine.specs.Start.{start_state, start_releasers}
+use Rattle.cv_io.specs.Releasers.{Classes}
+use Rattle.trusted_stubs.specs.Events.{Event, Request, IsKnownAfter}
+use Rattle.x64_machine.specs.declared.outcome.Outcome.{Outcome}
+use Rattle.x64_machine.specs.declared.outcome.Outcome.TheVariants as outcome
+use Rattle.x64_machine.specs.Failures.{asked_by, unanswered}
+use Rattle.x64_machine.specs.Run.{Configuration, Core, run}
+use Rattle.x64_machine.specs.Start.{start, start_state, start_releasers}
+use Rattle.confllvm_top.specs.Endings.{HasEnded, Outside}
+use Rattle.confllvm_top.specs.Released.{HasFailedToAnswer, IsServed}
 use Rattle.confllvm_top.specs.declared.status.Status.{Status}
 use Rattle.confllvm_top.specs.declared.status.Status.TheVariants.{Done, Refused, Usage, StoreFault, SinkFault, Fault, Steps, TrustFault, NoMemory}
 use Rattle.command_line.specs.Commands.{Command, RunFiles, Verify, Run, Disasm}
@@ -32,18 +39,18 @@ ended loaded steps files image public tapes segment private =
     finding_of (run (schedule_of files steps loaded (length image.entries)) (begun image public tapes segment private))
 
 found_by : (loaded : Loaded) (steps : ℕ) (files : RunFiles) (f : Finding) (x : RunsTo loaded steps files f) →
-    f ≡ ended loaded steps files x.image loaded.public_input [] x.image.private loaded.private_input
+    f ≡ ended loaded steps files x.image loaded.public_input loaded.tapes x.image.private loaded.private_input
 found_by loaded steps files f x =
     x.comes_to
     ∙ ap (λ (l : List ℕ). ended loaded steps files x.image l x.shared.tapes x.secret.segment x.secret.private_input) x.public_input
     ∙ ap (λ (l : List (Option Tape)). ended loaded steps files x.image loaded.public_input l x.secret.segment x.secret.private_input) x.tapes
-    ∙ ap (λ (l : List ℕ). ended loaded steps files x.image loaded.public_input [] l x.secret.private_input) x.segment
-    ∙ ap (λ (l : List ℕ). ended loaded steps files x.image loaded.public_input [] x.image.private l) x.private_input
+    ∙ ap (λ (l : List ℕ). ended loaded steps files x.image loaded.public_input loaded.tapes l x.secret.private_input) x.segment
+    ∙ ap (λ (l : List ℕ). ended loaded steps files x.image loaded.public_input loaded.tapes x.image.private l) x.private_input
 
-one_finding : (loaded : Loaded) (steps : ℕ) (files : RunFiles) (f g : Finding) → RunsTo loaded steps files f → RunsTo loaded steps files g → f ≡ g
+pub one_finding : (loaded : Loaded) (steps : ℕ) (files : RunFiles) (f g : Finding) → RunsTo loaded steps files f → RunsTo loaded steps files g → f ≡ g
 one_finding loaded steps files f g x y =
     found_by loaded steps files f x
-    ∙ ap (λ (i : Image). ended loaded steps files i loaded.public_input [] i.private loaded.private_input) (one_image loaded.image x.image y.image x.is y.is)
+    ∙ ap (λ (i : Image). ended loaded steps files i loaded.public_input loaded.tapes i.private loaded.private_input) (one_image loaded.image x.image y.image x.is y.is)
     ∙ sym (found_by loaded steps files g y)
 
 -- ---- one answer
@@ -150,3 +157,44 @@ by_image Usage command a b e f h = absurd (no_answer Usage command a refl h)
 by_image StoreFault command a b e f h = absurd (no_answer StoreFault command a refl h)
 by_image SinkFault command a b e f h = absurd (no_answer SinkFault command a refl h)
 by_image NoMemory command a b e f h = absurd (no_answer NoMemory command a refl h)
+
+-- ---- a releaser that failed
+
+same_class : (k l : ℕ) → TrustFault k ≡ TrustFault l → l ≡ k
+same_class k l e = cc
+
+request_told : (used class : ℕ) (o : Outcome) (cores : List Core) → TrustFault class ≡ status_of used o → (n : ℕ) × (unanswered o cores ≡ Some (record { class = class; count = n }))
+request_told used class outcome.Running cores e = absurd (cc)
+request_told used class (outcome.Exited status) cores e = absurd (cc)
+request_told used class (outcome.Fault core at kind) cores e = absurd (cc)
+request_told used class (outcome.Tape core at k) cores e =
+    (asked_by (slice_get cores core), ap (λ (x : ℕ). Some (record { class = x; count = asked_by (slice_get cores core) })) (same_class class k e))
+
+failed_by : (class n : ℕ) (events : List Event) (failure : Option Request) (old new : Classes) → failure ≡ Some (record { class = class; count = n }) → IsKnownAfter failure events old new → HasFailedToAnswer class old new
+failed_by class n events failure old new is known = record {
+  events = events;
+  request = record { class = class; count = n };
+  class_is = refl;
+  failed = subst (λ (f : Option Request). IsKnownAfter f events old new) is known;
+}
+
+trust_failed : (class : ℕ) (command : Command) (loaded : Loaded) (old new : Classes) → Answers (TrustFault class) command loaded → IsServed (TrustFault class) command loaded old new → HasFailedToAnswer class old new
+trust_failed class (Verify name) loaded old new h served = absurd h
+trust_failed class (Disasm name) loaded old new h served = absurd h
+trust_failed class (Run name steps files) loaded old new h served =
+    let finding = served.asked.0 in
+    let runs = served.asked.1 in
+    let last : Configuration = run (schedule_of files steps loaded (length runs.image.entries)) (start runs.image runs.shared runs.secret) in
+    let same : h.finding ≡ finding = one_finding loaded steps files h.finding finding h.runs runs in
+    let told : TrustFault class ≡ status_of (used_of files steps loaded) last.state.outcome =
+    h.status_is ∙ ap (λ (f : Finding). status_of (used_of files steps loaded) f.outcome) (same ∙ runs.comes_to) in
+    let asked = request_told (used_of files steps loaded) class last.state.outcome last.state.cores told in
+    failed_by class asked.0 served.released.events served.released.failure old new
+    (sym served.asked.2.unanswered ∙ ap (λ (f : Finding). f.unanswered) runs.comes_to ∙ asked.1) served.released.known
+
+pub ended-trust_fault : (words : List (List ℕ)) (o : Outside) (result : Status) (class : ℕ) → result ≡ TrustFault class → HasEnded result words o → HasFailedToAnswer class o.classes_before o.classes
+ended-trust_fault words o result class is ended =
+    let about = ended.about in
+    trust_failed class about.command about.loaded o.classes_before o.classes
+    (subst (λ (s : Status). Answers s about.command about.loaded) is about.answer.answers)
+    (subst (λ (s : Status). IsServed s about.command about.loaded o.classes_before o.classes) is about.served)

@@ -19,7 +19,8 @@ use Rattle.confllvm_top.specs.Loads.{IsLoadFault, LoadTold, SavesAll, SavesNamed
 use Rattle.confllvm_top.specs.Plans.{Plan, Saving, Shelf, HasSaved, PlanEnds, saved, line_err}
 use Rattle.confllvm_top.specs.Running.{saving}
 use Rattle.confllvm_top.specs.Streams.{Stream, HasGot, HasGotNothing, HasGotFront, MayHaveGot}
-use Rattle.confllvm_top.proofs.EndingLemmas.{risen_since}
+use Rattle.cv_io.specs.Releasers.{Classes}
+use Rattle.confllvm_top.proofs.EndingLemmas.{nothing_released, quiet_tapes, risen_since}
 
 -- ---- sinks and stores by their parts
 
@@ -196,19 +197,20 @@ pub plan_since : (result status : Status) (plan : Plan) (out err : Stream) (a b 
 plan_since result status plan out err a b c i j k e low h =
     counted_since result status plan out err a c i j k low (subst (λ (x : Option Files). PlanEnds result status plan out err (shelf_of x c j k)) e h)
 
-abbrev outside_of : Stream → Stream → Shelf → Outside
-outside_of out err s = record { out = out; err = err; store = s }
+abbrev outside_of : Stream → Stream → Shelf → Classes → Classes → Outside
+outside_of out err s x y = record { out = out; err = err; store = s; classes_before = x; classes = y }
 
-does_before : (result : Status) (command : Command) (image : List ℕ) (out err : Stream) (a c : Option Files) (i j k : ℕ) → i ≤ j →
-    Does result command image (outside_of out err (shelf_of a c j k)) → Does result command image (outside_of out err (shelf_of a c i k))
-does_before result command image out err a c i j k low (inl none) =
+does_before : (result : Status) (command : Command) (image : List ℕ) (out err : Stream) (a c : Option Files) (i j k : ℕ) (x y : Classes) → i ≤ j →
+    Does result command image (outside_of out err (shelf_of a c j k) x y) → Does result command image (outside_of out err (shelf_of a c i k) x y)
+does_before result command image out err a c i j k x y low (inl none) =
     inl (none.0, record { quiet = record { out = none.1.quiet.out; store = none.1.quiet.store }; tells = none.1.tells })
-does_before result command image out err a c i j k low (inr (inl missing)) = inr (inl (
+does_before result command image out err a c i j k x y low (inr (inl missing)) = inr (inl (
   missing.0,
   record {
     accepted = missing.1.accepted;
     failed = record {
       quiet = record { out = missing.1.failed.quiet.out; store = missing.1.failed.quiet.store };
+      unasked = missing.1.failed.unasked;
       name = missing.1.failed.name;
       loads = missing.1.failed.loads;
       tells = missing.1.failed.tells;
@@ -216,38 +218,39 @@ does_before result command image out err a c i j k low (inr (inl missing)) = inr
     cause = elim missing.1.cause [ inl risen ↦ inl (risen_since i j k low risen) | inr told ↦ inr told ];
   },
 ))
-does_before result command image out err a c i j k low (inr (inr d)) = inr (inr (record {
+does_before result command image out err a c i j k x y low (inr (inr d)) = inr (inr (record {
   loaded = d.loaded;
   image_is = d.image_is;
   inputs = d.inputs;
   status = d.status;
   plan = d.plan;
+  served = d.served;
   answer = d.answer;
   ends = counted_since result d.status d.plan out err a c i j k low d.ends;
 }))
 
-pub does_since : (result : Status) (command : Command) (image : List ℕ) (out err : Stream) (a b c : Option Files) (i j k : ℕ) → b ≡ a → i ≤ j →
-    Does result command image (outside_of out err (shelf_of b c j k)) → Does result command image (outside_of out err (shelf_of a c i k))
-does_since result command image out err a b c i j k e low h =
-    does_before result command image out err a c i j k low (subst (λ (x : Option Files). Does result command image (outside_of out err (shelf_of x c j k))) e h)
+pub does_since : (result : Status) (command : Command) (image : List ℕ) (out err : Stream) (a b c : Option Files) (i j k : ℕ) (x y : Classes) → b ≡ a → i ≤ j →
+    Does result command image (outside_of out err (shelf_of b c j k) x y) → Does result command image (outside_of out err (shelf_of a c i k) x y)
+does_since result command image out err a b c i j k x y e low h =
+    does_before result command image out err a c i j k x y low (subst (λ (f : Option Files). Does result command image (outside_of out err (shelf_of f c j k) x y)) e h)
 
 -- ---- inputs that were not loaded
 
-pub misses : (fault : LoadFault) (result : Status) (name : List ℕ) (steps : ℕ) (files : RunFiles) (image : List ℕ) (out err : Stream) (a c : Option Files) (i k : ℕ) →
-    IsAccepted image → HasGotNothing out → c ≡ a → IsLoadFault fault (IsInput files) (ToldAnd a (λ told. LacksInput told files)) (shelf_of a c i k) → LoadTold result fault err →
-    Does result (Run name steps files) image (outside_of out err (shelf_of a c i k))
-misses load.NoMemory result name steps files image out err a c i k accepted quiet same fault told =
+pub misses : (fault : LoadFault) (result : Status) (name : List ℕ) (steps : ℕ) (files : RunFiles) (image : List ℕ) (out err : Stream) (a c : Option Files) (i k : ℕ) (x y : Classes) →
+    IsAccepted image → HasGotNothing out → c ≡ a → y ≡ x → IsLoadFault fault (IsInput files) (ToldAnd a (λ told. LacksInput told files)) (shelf_of a c i k) → LoadTold result fault err →
+    Does result (Run name steps files) image (outside_of out err (shelf_of a c i k) x y)
+misses load.NoMemory result name steps files image out err a c i k x y accepted quiet same unasked fault told =
     inl (told.0, record { quiet = record { out = quiet; store = same }; tells = told.1 })
-misses (load.Store missing) result name steps files image out err a c i k accepted quiet same fault (inl told) =
+misses (load.Store missing) result name steps files image out err a c i k x y accepted quiet same unasked fault (inl told) =
     inr (inl (
       told.0,
       record {
         accepted = accepted;
-        failed = record { quiet = record { out = quiet; store = same }; name = missing.now; loads = inr fault.0; tells = told.1 };
+        failed = record { quiet = record { out = quiet; store = same }; unasked = unasked; name = missing.now; loads = inr fault.0; tells = told.1 };
         cause = fault.1;
       },
     ))
-misses (load.Store missing) result name steps files image out err a c i k accepted quiet same fault (inr told) =
+misses (load.Store missing) result name steps files image out err a c i k x y accepted quiet same unasked fault (inr told) =
     inl (told.0, record { quiet = record { out = quiet; store = same }; tells = told.1 })
 
 -- ---- bytes that `run` refuses
@@ -255,15 +258,16 @@ misses (load.Store missing) result name steps files image out err a c i k accept
 not_passed : false ≡ true → ⊥
 not_passed e = cc
 
-pub refused_run : (rule : Rule) (at : ℕ) (result : Status) (name : List ℕ) (steps : ℕ) (files : RunFiles) (image : List ℕ) (out err : Stream) (s : Shelf) →
-    IsVerdict image rule at → (IsAccepted image → ⊥) → PlanEnds result (Refused rule at) (line_err (refused_line rule at)) out err s →
-    Does result (Run name steps files) image (outside_of out err s)
-refused_run rule at result name steps files image out err s verdict refused ends = inr (inr (record {
-  loaded = image_alone image;
+pub refused_run : (rule : Rule) (at : ℕ) (result : Status) (name : List ℕ) (steps : ℕ) (files : RunFiles) (image : List ℕ) (out err : Stream) (s : Shelf) (x y : Classes) →
+    IsVerdict image rule at → (IsAccepted image → ⊥) → y ≡ x → PlanEnds result (Refused rule at) (line_err (refused_line rule at)) out err s →
+    Does result (Run name steps files) image (outside_of out err s x y)
+refused_run rule at result name steps files image out err s x y verdict refused unasked ends = inr (inr (record {
+  loaded = image_alone image (quiet_tapes x);
   image_is = refl;
   inputs = λ accepted. absurd (refused accepted);
   status = Refused rule at;
   plan = line_err (refused_line rule at);
+  served = record { released = nothing_released x y unasked; asked = (refl, refl) };
   answer = record { answers = verdict; noninterfering = λ h k. absurd (not_passed k); tells = refl };
   ends = ends;
 }))

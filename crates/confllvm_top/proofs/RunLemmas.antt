@@ -1,21 +1,26 @@
 -- The run of a machine that stands at an image's start, and what tells it.
-use Rattle.std.proofs.Common.{◌≡◌, ◌∙◌, ℕ, suc, List, [], ◌∷◌, ◌++◌, length, Option, Some, refl, sym, ap, subst, slice_get}
-use Rattle.std.proofs.lemmas.Option.{none-some}
+use Rattle.std.proofs.Common.{◌≡◌, ◌∙◌, ℕ, suc, Bool, List, [], ◌∷◌, ◌++◌, length, Option, is_some, refl, sym, ap, subst}
 use Rattle.cv_word.specs.Words.{AreBytes}
-use Rattle.cv_word.specs.GateStep.{Tape}
+use Rattle.cv_word.specs.GateStep.{Releasers, Tape}
+use Rattle.cv_io.specs.Releasers.{Classes, held_of}
+use Rattle.trusted_stubs.specs.Events.{Event, Request, audit_of, played}
 use Rattle.image_form.specs.Image.{Image}
 use Rattle.conf_verify.specs.Verdict.{IsImage, IsAccepted}
 use Rattle.x64_machine.specs.declared.outcome.Outcome.{Outcome}
 use Rattle.x64_machine.specs.declared.outcome.Outcome.TheVariants as outcome
 use Rattle.x64_machine.specs.Run.{State, Configuration, configuration, run}
-use Rattle.x64_machine.specs.Start.{start_cores, start_state, none}
+use Rattle.x64_machine.specs.Start.{start_cores, start_state, start_releasers}
+use Rattle.x64_machine.specs.Failures.{HasRun, unanswered}
 use Rattle.x64_machine.specs.Noninterference.{Noninterfering}
 use Rattle.command_line.specs.Commands.{RunFiles, Run}
 use Rattle.confllvm_top.specs.declared.status.Status.{Status}
 use Rattle.confllvm_top.specs.Answers.{Answers, EndsRun, IsAnswer, IsPlan, TellsRun}
-use Rattle.confllvm_top.specs.Inputs.{finding_in, Saves}
+use Rattle.confllvm_top.specs.Inputs.{Saves}
 use Rattle.confllvm_top.specs.Loading.{Loaded}
 use Rattle.confllvm_top.specs.Plans.{Plan, Saving}
+use Rattle.confllvm_top.specs.Ran.{HasRunWith}
+use Rattle.confllvm_top.specs.Released.{HasReleased, HasUsed, IsAsked, IsServed, RunsWith, tapes_from}
+use Rattle.confllvm_top.proofs.TapeLemmas.{begins_with, rest, rest_follows, tapes_are_bytes}
 use Rattle.confllvm_top.specs.Running.{Finding, RunsTo, finding_of, outcome_line, plan_of, saving, schedule_of, status_of, used_of}
 
 -- there is a core for each entry
@@ -23,34 +28,45 @@ length-start_cores : (image : Image) (i : ℕ) (xs : List ℕ) → length (start
 length-start_cores image i [] = refl
 length-start_cores image i (entry ∷ xs) = ap suc (length-start_cores image (suc i) xs)
 
-abbrev no_tape_list : List (Option Tape)
-no_tape_list = []
+abbrev pub loaded_of : List ℕ → List ℕ → List ℕ → List ℕ → List (Option Tape) → Loaded
+loaded_of image schedule public_input private_input tapes = record { image = image; schedule = schedule; public_input = public_input; private_input = private_input; tapes = tapes }
 
-no_tapes : (class : ℕ) (tape : Tape) → slice_get no_tape_list class ≡ Some (Some tape) → AreBytes tape.bytes
-no_tapes class tape e = absurd (none-some (Some tape) e)
-
--- what a machine comes to that has run from the image's start
-pub runs_to : (loaded : Loaded) (steps : ℕ) (files : RunFiles) (image : Image) (private : List ℕ) (first last : State) (entries : List ℕ) →
-    IsImage loaded.image image → private ≡ image.private → AreBytes loaded.public_input × AreBytes loaded.private_input × AreBytes private →
-    first ≡ start_state image loaded.public_input loaded.private_input private →
-    configuration last none ≡ run entries (configuration first none) → entries ≡ schedule_of files steps loaded (length first.cores) →
-    RunsTo loaded steps files (finding_in last)
-runs_to loaded steps files image private first last entries is same bytes begins runs scheduled =
+-- what a machine comes to that has run from the image's start while releasers answered
+pub ran_with : (bytes schedule public private_in : List ℕ) (steps : ℕ) (files : RunFiles) (image : Image) (private : List ℕ) (first last : State) (entries : List ℕ) (old new : Classes) →
+    IsImage bytes image → private ≡ image.private → AreBytes public × AreBytes private_in × AreBytes private → AreBytes last.world.visible.audit →
+    first ≡ start_state image public private_in private → HasRun entries old new first last →
+    ((tapes : List (Option Tape)) → entries ≡ schedule_of files steps (loaded_of bytes schedule public private_in tapes) (length first.cores)) →
+    HasRunWith (loaded_of bytes schedule public private_in) steps files last old new
+ran_with bytes schedule public private_in steps files image private first last entries old new is same are audit begins ran scheduled =
+    let begun : State = start_state image public private_in private in
+    let plays = subst (λ (s : State). HasRun entries old new s last) begins ran in
+    let failure : Option Request = unanswered last.outcome last.cores in
+    let limited : Bool = is_some failure in
+    let events : List Event = plays.events in
+    let tapes : List (Option Tape) = tapes_from limited events 0 (held_of old) in
+    let loaded : Loaded = loaded_of bytes schedule public private_in tapes in
+    let later : Releasers = rest limited (held_of old) in
     let cores : length first.cores ≡ length image.entries = ap (λ (s : State). length s.cores) begins ∙ length-start_cores image 0 image.entries in
-    let F : List ℕ → State → Finding = λ e s. finding_of (run e (configuration s none)) in
+    let told : AreBytes (audit_of events) = subst (λ (l : List ℕ). AreBytes l) plays.listed audit in
     record {
-      image = image;
-      is = is;
-      shared = record { public_input = loaded.public_input; tapes = []; input_bytes = bytes.0; tape_bytes = no_tapes };
-      secret = record { segment = private; private_input = loaded.private_input; segment_bytes = bytes.2; input_bytes = bytes.1 };
-      public_input = refl;
-      tapes = refl;
-      segment = same;
-      private_input = refl;
-      comes_to =
-          ap (λ (c : Configuration). finding_of c) runs
-          ∙ ap (λ (e : List ℕ). F e first) (scheduled ∙ ap (λ (n : ℕ). schedule_of files steps loaded n) cores)
-          ∙ ap (λ (s : State). F (schedule_of files steps loaded (length image.entries)) s) begins;
+      tapes = tapes;
+      released = record { events = events; failure = failure; known = plays.known; tapes_are = refl };
+      releasers = played events later;
+      runs = record {
+        image = image;
+        is = is;
+        shared = record { public_input = public; tapes = tapes; input_bytes = are.0; tape_bytes = tapes_are_bytes limited events (held_of old) told };
+        secret = record { segment = private; private_input = private_in; segment_bytes = are.2; input_bytes = are.1 };
+        public_input = refl;
+        tapes = refl;
+        segment = same;
+        private_input = refl;
+        comes_to =
+            ap (λ (c : Configuration). finding_of c) (plays.goes later refl (rest_follows failure events old new plays.known))
+            ∙ ap (λ (r : Releasers). finding_of (run entries (configuration begun r))) (begins_with limited events (held_of old) plays.served)
+            ∙ ap (λ (e : List ℕ). finding_of (run e (configuration begun (start_releasers tapes)))) (scheduled tapes ∙ ap (λ (n : ℕ). schedule_of files steps loaded n) cores);
+      };
+      used = record { listed = plays.listed; used = λ class. refl; asked = λ class. refl; unanswered = refl };
     }
 
 -- ---- what tells it
@@ -85,6 +101,24 @@ run_answer name steps files loaded status plan finding accepted noninterfering r
       noninterfering = λ _ _. noninterfering;
       tells = tells_run name steps files loaded plan finding.outcome (record { finding = finding; runs = runs; is = told });
     })
+
+asked_run : (name : List ℕ) (steps : ℕ) (files : RunFiles) (loaded : Loaded) (o : Outcome) (events : List Event) (failure : Option Request) → RunsWith loaded (Run name steps files) events failure →
+    IsAsked (status_of (used_of files steps loaded) o) (Run name steps files) loaded events failure
+asked_run name steps files loaded outcome.Running events failure h = h
+asked_run name steps files loaded (outcome.Exited status) events failure h = h
+asked_run name steps files loaded (outcome.Fault core at kind) events failure h = h
+asked_run name steps files loaded (outcome.Tape core at class) events failure h = h
+
+-- what the releasers did in a run
+pub run_served : (name : List ℕ) (steps : ℕ) (files : RunFiles) (loaded : Loaded) (status : Status) (finding : Finding) (old new : Classes) (released : HasReleased loaded.tapes old new) →
+    RunsTo loaded steps files finding → HasUsed released.events released.failure finding → status ≡ status_of (used_of files steps loaded) finding.outcome →
+    IsServed status (Run name steps files) loaded old new
+run_served name steps files loaded status finding old new released runs used is = record {
+  released = released;
+  asked =
+      subst (λ (s : Status). IsAsked s (Run name steps files) loaded released.events released.failure) (sym is)
+      (asked_run name steps files loaded finding.outcome released.events released.failure (finding, runs, used));
+}
 
 same_plan : (a b : List ℕ) (xs ys : List Saving) (c d : List ℕ) → a ≡ b → xs ≡ ys → c ≡ d → plan_by a xs c ≡ plan_by b ys d
 same_plan a b xs ys c d e f g =

@@ -1,55 +1,62 @@
 -- How a command ends.
 use Rattle.std.specs.Prelude.{◌≡◌, ◌⊎◌, ℕ, List, Option, Some, []}
 use Rattle.cv_io.specs.Files.{Files}
+use Rattle.cv_io.specs.Releasers.{Classes}
 use Rattle.command_line.specs.Commands.{Command, IsCommand}
 use Rattle.conf_verify.specs.Verdict.{IsAccepted}
 use Rattle.x64_machine.specs.Noninterference.{Noninterfering}
 use Rattle.confllvm_top.specs.declared.status.Status.{Status}
 use Rattle.confllvm_top.specs.declared.status.Status.TheVariants.{StoreFault, SinkFault, NoMemory}
-use Rattle.confllvm_top.specs.Answers.{IsAnswer}
+use Rattle.cv_word.specs.GateStep.{Tape}
+use Rattle.confllvm_top.specs.Answers.{Answers, IsAnswer}
 use Rattle.confllvm_top.specs.Lines.{no_memory_line, store_fault_line}
 use Rattle.confllvm_top.specs.Loading.{Loaded, AreLoaded, HasInputs, LacksInput, Loads, named_by}
 use Rattle.confllvm_top.specs.Plans.{Plan, Shelf, HasSaved, HasFaulted, IsTold, IsCutOff, IsUnsaved, RanOut, PlanEnds}
+use Rattle.confllvm_top.specs.Released.{HasReleased, IsServed}
 use Rattle.confllvm_top.specs.Streams.{Stream, HasGotNothing, HasFailed, MayHaveGot}
 
--- what a call sees of the outside: both sinks and the store
+-- what a call sees of the outside: both sinks, the store, and what is known of the releasers before and after it
 pub record Outside : Type 0 where
   pub out : Stream
   pub err : Stream
   pub store : Shelf
+  pub classes_before : Classes
+  pub classes : Classes
 
--- the command that the words say, with what it has loaded, was about to end with a status, which this plan tells
-pub record IsAbout (words : List (List ℕ)) (told : Option Files) (status : Status) (plan : Plan) : Type 0 where
+-- the command that the words say, with what it has loaded and what the releasers told, was about to end with a status, which this plan
+-- tells
+pub record IsAbout (words : List (List ℕ)) (o : Outside) (status : Status) (plan : Plan) : Type 0 where
   pub command : Command
   pub loaded : Loaded
-  pub are_loaded : AreLoaded words told command loaded
+  pub are_loaded : AreLoaded words o.store.files_before command loaded
+  pub served : IsServed status command loaded o.classes_before o.classes
   pub answer : IsAnswer status command loaded plan
 
 -- it ended with that status, and all is told
 pub record HasEnded (status : Status) (words : List (List ℕ)) (o : Outside) : Type 0 where
   pub plan : Plan
-  pub about : IsAbout words o.store.files_before status plan
+  pub about : IsAbout words o status plan
   pub told : IsTold plan o.out o.err o.store
 
 -- it was about to end, and a put failed
 pub record HasFailedToEnd (words : List (List ℕ)) (o : Outside) : Type 0 where
   pub status : Status
   pub plan : Plan
-  pub about : IsAbout words o.store.files_before status plan
+  pub about : IsAbout words o status plan
   pub cut_off : IsCutOff plan o.out o.err o.store
 
 -- it was about to end, and a save failed
 pub record HasFailedToSave (words : List (List ℕ)) (o : Outside) : Type 0 where
   pub status : Status
   pub plan : Plan
-  pub about : IsAbout words o.store.files_before status plan
+  pub about : IsAbout words o status plan
   pub unsaved : IsUnsaved plan o.out o.err o.store
 
 -- it was about to end, and memory was refused
 pub record HasRunOut (words : List (List ℕ)) (o : Outside) : Type 0 where
   pub status : Status
   pub plan : Plan
-  pub about : IsAbout words o.store.files_before status plan
+  pub about : IsAbout words o status plan
   pub ran_out : RanOut plan o.out o.err o.store
 
 -- nothing was put to `out` or saved
@@ -57,9 +64,10 @@ pub record IsQuiet (o : Outside) : Type 0 where
   pub out : HasGotNothing o.out
   pub store : HasSaved [] o.store
 
--- a load of a command failed, and so nothing was put or saved but the line of that
+-- a load of a command failed, and so nothing was put or saved but the line of that, and no releaser was asked
 pub record HasFailedToLoad (command : Command) (o : Outside) : Type 0 where
   pub quiet : IsQuiet o
+  pub unasked : o.classes ≡ o.classes_before
   pub name : List ℕ
   pub loads : Loads command name
   pub tells : MayHaveGot (store_fault_line name) o.err
@@ -94,6 +102,7 @@ pub record CarriesOut (result : Status) (command : Command) (image : List ℕ) (
   pub inputs : IsAccepted loaded.image → HasInputs o.store.files_before (named_by command) loaded
   pub status : Status
   pub plan : Plan
+  pub served : IsServed status command loaded o.classes_before o.classes
   pub answer : IsAnswer status command loaded plan
   pub ends : PlanEnds result status plan o.out o.err o.store
 
@@ -110,6 +119,17 @@ pub record IsChecked (words : List (List ℕ)) (told : Option Files) (command : 
   pub are_loaded : AreLoaded words told command loaded
   pub accepted : IsAccepted loaded.image
   pub noninterfering : Noninterfering loaded.image
+
+-- the command answers so to what it has loaded, with what the releasers told in the call
+pub record AnswersWith (status : Status) (command : Command) (loaded : Loaded) (o : Outside) : Type 0 where
+  pub tapes : List (Option Tape)
+  pub released : HasReleased tapes o.classes_before o.classes
+  pub answers : Answers status command (record loaded { tapes = tapes })
+
+-- it answers so, whatever tapes the releasers told in the call
+abbrev pub AnswersAlways : Status → Command → Loaded → Outside → Type 0
+AnswersAlways status command loaded o =
+    (tapes : List (Option Tape)) → HasReleased tapes o.classes_before o.classes → Answers status command (record loaded { tapes = tapes })
 
 -- a fault of the store or of a sink, or want of memory, came in place of the answer
 abbrev pub IsFault : Status → Outside → Type 0

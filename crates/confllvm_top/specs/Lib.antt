@@ -7,6 +7,9 @@ pub use Rattle.conf_verify.specs.Listed
 pub use Rattle.x64_machine.specs.Run
 pub use Rattle.x64_machine.specs.Start
 pub use Rattle.x64_machine.specs.Entries
+pub use Rattle.x64_machine.specs.Failures
+pub use Rattle.trusted_stubs.specs.Events
+pub use Rattle.cv_io.specs.Releasers
 pub use Rattle.x64_machine.specs.Noninterference
 pub use Rattle.cv_io.specs.Counts
 pub use Rattle.cv_io.specs.Files
@@ -22,5 +25,7 @@ pub mod Running
 pub mod Loads
 pub mod Inputs
 pub mod Answers
+pub mod Released
+pub mod Ran
 pub mod Endings
 pub mod Outsides

@@ -3,13 +3,16 @@ use Rattle.std.specs.Prelude.{◌≡◌, ◌⊎◌, ℕ, List, [], Option, Some,
 use Rattle.cv_io.specs.Files.{Files, HasFile}
 use Rattle.command_line.specs.Commands.{Command, Run, RunFiles, IsCommand, name_of}
 use Rattle.conf_verify.specs.Verdict.{IsAccepted}
+use Rattle.cv_word.specs.GateStep.{Tape}
 
--- The bytes of the file of a command's name; and of `run` the schedule and both inputs, each empty where no file is named for it.
+-- What a command gets from outside: the bytes of the file of its name; and of `run` the schedule and both inputs, each empty where no
+-- file is named for it, and for each class the tape of what its releaser tells, None where it has none.
 pub record Loaded : Type 0 where
   pub image : List ℕ
   pub schedule : List ℕ
   pub public_input : List ℕ
   pub private_input : List ℕ
+  pub tapes : List (Option Tape)
 
 abbrev pub no_files : RunFiles
 no_files = record { schedule = None; public_input = None; private_input = None; private_output = None; audit = None }

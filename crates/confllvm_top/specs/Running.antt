@@ -1,6 +1,8 @@
 -- What `run` finds.
 use Rattle.std.specs.Prelude.{◌≡◌, ℕ, List, [], ◌∷◌, ◌++◌, length, min, take, Option, Some, None, is_some, if◌then◌else◌}
 use Rattle.command_line.specs.Commands.{RunFiles}
+use Rattle.cv_word.specs.GateStep.{Releasers}
+use Rattle.trusted_stubs.specs.Events.{Request}
 use Rattle.image_form.specs.Image.{Image}
 use Rattle.conf_verify.specs.Verdict.{IsImage}
 use Rattle.x64_machine.specs.declared.outcome.Outcome.{Outcome}
@@ -9,25 +11,31 @@ use Rattle.x64_machine.specs.declared.schedule.Schedule.TheVariants.{RoundRobin}
 use Rattle.x64_machine.specs.Run.{Configuration, run}
 use Rattle.x64_machine.specs.Start.{Shared, Secret, start}
 use Rattle.x64_machine.specs.Entries.{entries}
+use Rattle.x64_machine.specs.Failures.{unanswered}
 use Rattle.confllvm_top.specs.declared.status.Status.{Status}
 use Rattle.confllvm_top.specs.declared.status.Status.TheVariants.{Done, Fault, Steps, TrustFault}
 use Rattle.confllvm_top.specs.Lines.{exit_line, fault_line, steps_line, trust_fault_line}
 use Rattle.confllvm_top.specs.Loading.{Loaded}
 use Rattle.confllvm_top.specs.Plans.{Plan, Saving}
 
--- what a run leaves to tell
+-- what a run leaves: the outcome, the request that ended it unanswered, if one did, and what was put out; and of the releasers what is
+-- left of their tapes and what each was asked
 pub record Finding : Type 0 where
   pub outcome : Outcome
+  pub unanswered : Option Request
   pub public_output : List ℕ
   pub private_output : List ℕ
   pub audit : List ℕ
+  pub releasers : Releasers
 
 abbrev pub finding_of : Configuration → Finding
 finding_of c = record {
   outcome = c.state.outcome;
+  unanswered = unanswered c.state.outcome c.state.cores;
   public_output = c.state.world.visible.public_output;
   private_output = c.state.world.private_output;
   audit = c.state.world.visible.audit;
+  releasers = c.releasers;
 }
 
 -- the entries of a run of n cores: the first of the schedule's bytes, or a round robin where no schedule is named
@@ -38,15 +46,15 @@ schedule_of files steps loaded n = if is_some files.schedule then take steps loa
 abbrev pub used_of : RunFiles → ℕ → Loaded → ℕ
 used_of files steps loaded = if is_some files.schedule then min steps (length loaded.schedule) else steps
 
--- The run of the loaded image comes to this, from its start with the loaded inputs and without a releaser. The private segment starts
--- with the image's private bytes.
+-- The run of the loaded image comes to this, from its start with the loaded inputs and tapes. The private segment starts with the
+-- image's private bytes.
 pub record RunsTo (loaded : Loaded) (steps : ℕ) (files : RunFiles) (finding : Finding) : Type 0 where
   pub image : Image
   pub is : IsImage loaded.image image
   pub shared : Shared
   pub secret : Secret
   pub public_input : shared.public_input ≡ loaded.public_input
-  pub tapes : shared.tapes ≡ []
+  pub tapes : shared.tapes ≡ loaded.tapes
   pub segment : secret.segment ≡ image.private
   pub private_input : secret.private_input ≡ loaded.private_input
   pub comes_to : finding ≡ finding_of (run (schedule_of files steps loaded (length image.entries)) (start image shared secret))

@@ -1,6 +1,6 @@
 -- What a status says, and the exit status of each.
 use Rattle.std.specs.Prelude.{ℕ, Bool, true, false}
-use Rattle.command_line.specs.Commands.{Command, Disasm}
+use Rattle.command_line.specs.Commands.{Command, Run, Disasm}
 use Rattle.confllvm_top.specs.declared.status.Status.{Status}
 use Rattle.confllvm_top.specs.declared.status.Status.TheVariants.{Done, Refused, Usage, StoreFault, SinkFault, Fault, Steps, TrustFault, NoMemory}
 
@@ -19,6 +19,11 @@ code_of NoMemory = 9
 abbrev pub checks : Command → Bool
 checks (Disasm name) = false
 checks _ = true
+
+-- whether a command may ask releasers
+abbrev pub asks : Command → Bool
+asks (Run name steps files) = true
+asks _ = false
 
 -- the command did its work with the bytes of its file, and didn't refuse them
 abbrev pub is_passed : Status → Bool

@@ -1,17 +1,18 @@
 //! The call that does a command.
 
-ghost use Rattle.std.specs.Prelude.{◌≡◌, ◌≤◌, ◌⊎◌, ℕ, true, List, map};
+ghost use Rattle.std.specs.Prelude.{◌≡◌, ◌≤◌, ◌⊎◌, ℕ, true, false, List, map};
 ghost use Rattle.std.specs.String.{string_bytes};
 ghost use Rattle.command_line.specs.Commands as said;
 ghost use Rattle.command_line.specs.Commands.{IsCommand, IsNoCommand};
 ghost use Rattle.command_line.specs.Words.{command_of};
-ghost use Rattle.confllvm_top.specs.Answers.{Answers};
-ghost use Rattle.confllvm_top.specs.Endings.{Does, HasEnded, HasFailedToEnd, HasFailedToSave, HasNoMemory, HasNotLoaded, HasRunOut, IsChecked, IsFault};
+ghost use Rattle.cv_io.specs.Releasers.{classes_by, held_of};
+ghost use Rattle.confllvm_top.specs.Endings.{AnswersAlways, AnswersWith, Does, HasEnded, HasFailedToEnd, HasFailedToSave, HasNoMemory, HasNotLoaded, HasRunOut, IsChecked, IsFault};
 ghost use Rattle.confllvm_top.specs.Lines.{usage_line};
 ghost use Rattle.confllvm_top.specs.Loading.{LacksNamed, Loaded, TellsNamed};
 ghost use Rattle.confllvm_top.specs.Plans.{HasFaulted, shelf};
+ghost use Rattle.confllvm_top.specs.Released.{HasFailedToAnswer};
 ghost use Rattle.confllvm_top.specs.Outsides.{outside};
-ghost use Rattle.confllvm_top.specs.Statuses.{checks, is_passed, is_told};
+ghost use Rattle.confllvm_top.specs.Statuses.{asks, checks, is_passed, is_told};
 ghost use Rattle.confllvm_top.specs.Streams.{stream, HasFailed, MayHaveGot};
 
 use crate::law::one_answer;
@@ -21,7 +22,7 @@ use crate::status::Status;
 use crate::telling::{put_anyway, tell_no_memory, tell_store_fault};
 use crate::verifying::tell_verdict;
 use command_line::{Command, WordsFault, one_command, read_command};
-use cv_io::{Sink, Store, StoreError};
+use cv_io::{Sink, Store, StoreError, Trusted};
 use std::alloc::Global;
 
 /// Does the command that `words` say, those after the program's name, and answers how it ended.
@@ -40,6 +41,9 @@ use std::alloc::Global;
 /// `Refused`, `exit S`, `fault core C at 0xA KIND`, `steps N` or `trust fault class K`. With the first load, put or save that
 /// fails the command ends: a failing put of these is `SinkFault`, and then nothing more is put.
 ///
+/// The releaser of a class of releases is `trusted[class]`. `run` asks it at each release of that class. Where it fails, the run ends
+/// with `TrustFault`. The list keeps its length, and each class the releaser that it has.
+///
 /// The lines `usage fault`, `store fault NAME` and `no memory` go to `err`, whether or not that fails.
 pub fn confllvm<S: Store, O: Sink, E: Sink>(
     alloc: Global,
@@ -47,29 +51,35 @@ pub fn confllvm<S: Store, O: Sink, E: Sink>(
     store: &mut S,
     out: &mut O,
     err: &mut E,
+    trusted: &mut Vec<Option<Box<dyn Trusted>>>,
 ) -> Status
     // Where `verify` or `run` ends and has passed its check, the loaded bytes are accepted and noninterfering.
     ensures checked { (command : said.Command) → IsCommand (map string_bytes words.now) command → checks command ≡ true → is_passed result ≡ true → IsChecked (map string_bytes words.now) (S.contents store.old) command }
     // An answer is that of the command to what it has loaded; what tells it is put and saved, and nothing else.
-    ensures told { is_told result ≡ true → HasEnded result (map string_bytes words.now) (outside S.contents S.faults O.held O.faults E.held E.faults store.old store.new out.old out.new err.old err.new) }
-    // Files that are told are answered by what their bytes are, unless there is a fault or memory is refused.
-    ensures answered { (command : said.Command) (loaded : Loaded) → TellsNamed (map string_bytes words.now) (S.contents store.old) command loaded → Answers result command loaded ⊎ IsFault result (outside S.contents S.faults O.held O.faults E.held E.faults store.old store.new out.old out.new err.old err.new) }
-    // So files that are told get exactly the command's answer to their bytes, unless there is a fault or memory is refused.
-    ensures exact { (command : said.Command) (loaded : Loaded) (status : Status) → TellsNamed (map string_bytes words.now) (S.contents store.old) command loaded → Answers status command loaded → (result ≡ status) ⊎ IsFault result (outside S.contents S.faults O.held O.faults E.held E.faults store.old store.new out.old out.new err.old err.new) }
+    ensures told { is_told result ≡ true → HasEnded result (map string_bytes words.now) (outside S.contents S.faults O.held O.faults E.held E.faults store.old store.new out.old out.new err.old err.new (classes_by known trusted.old.items) (classes_by known trusted.new.items)) }
+    // Files that are told are answered by what their bytes are and what the releasers tell, unless there is a fault or memory is refused.
+    ensures answered { (command : said.Command) (loaded : Loaded) → TellsNamed (map string_bytes words.now) (S.contents store.old) command loaded → AnswersWith result command loaded (outside S.contents S.faults O.held O.faults E.held E.faults store.old store.new out.old out.new err.old err.new (classes_by known trusted.old.items) (classes_by known trusted.new.items)) ⊎ IsFault result (outside S.contents S.faults O.held O.faults E.held E.faults store.old store.new out.old out.new err.old err.new (classes_by known trusted.old.items) (classes_by known trusted.new.items)) }
+    // So files that are told get exactly the command's answer to them, unless there is a fault or memory is refused.
+    ensures exact { (command : said.Command) (loaded : Loaded) (status : Status) → TellsNamed (map string_bytes words.now) (S.contents store.old) command loaded → AnswersAlways status command loaded (outside S.contents S.faults O.held O.faults E.held E.faults store.old store.new out.old out.new err.old err.new (classes_by known trusted.old.items) (classes_by known trusted.new.items)) → (result ≡ status) ⊎ IsFault result (outside S.contents S.faults O.held O.faults E.held E.faults store.old store.new out.old out.new err.old err.new (classes_by known trusted.old.items) (classes_by known trusted.new.items)) }
     // Usage exactly where the words are no command, unless memory is refused.
     ensures usage { result ≡ Status.Usage → IsNoCommand (map string_bytes words.now) }
     ensures no_command { IsNoCommand (map string_bytes words.now) → (result ≡ Status.Usage) ⊎ (result ≡ Status.NoMemory) }
     // Why a fault comes: the store or a sink has failed in this call, or the file isn't there that is loaded next.
     ensures store_fault { result ≡ Status.StoreFault → HasFaulted (shelf S.contents S.faults store.old store.new) ⊎ LacksNamed (map string_bytes words.now) (S.contents store.old) }
     ensures sink_fault { result ≡ Status.SinkFault → HasFailed (stream O.held O.faults out.old out.new) ⊎ HasFailed (stream E.held E.faults err.old err.new) }
+    ensures trust_fault { (class : ℕ) → result ≡ Status.TrustFault class → HasFailedToAnswer class (classes_by known trusted.old.items) (classes_by known trusted.new.items) }
     // What was put and saved before a fault or want of memory: the front of what the command was about to tell.
-    ensures cut_off { result ≡ Status.SinkFault → HasFailedToEnd (map string_bytes words.now) (outside S.contents S.faults O.held O.faults E.held E.faults store.old store.new out.old out.new err.old err.new) }
-    ensures unsaved { result ≡ Status.StoreFault → HasNotLoaded (map string_bytes words.now) (outside S.contents S.faults O.held O.faults E.held E.faults store.old store.new out.old out.new err.old err.new) ⊎ HasFailedToSave (map string_bytes words.now) (outside S.contents S.faults O.held O.faults E.held E.faults store.old store.new out.old out.new err.old err.new) }
-    ensures ran_out { result ≡ Status.NoMemory → HasNoMemory (outside S.contents S.faults O.held O.faults E.held E.faults store.old store.new out.old out.new err.old err.new) ⊎ HasRunOut (map string_bytes words.now) (outside S.contents S.faults O.held O.faults E.held E.faults store.old store.new out.old out.new err.old err.new) }
+    ensures cut_off { result ≡ Status.SinkFault → HasFailedToEnd (map string_bytes words.now) (outside S.contents S.faults O.held O.faults E.held E.faults store.old store.new out.old out.new err.old err.new (classes_by known trusted.old.items) (classes_by known trusted.new.items)) }
+    ensures unsaved { result ≡ Status.StoreFault → HasNotLoaded (map string_bytes words.now) (outside S.contents S.faults O.held O.faults E.held E.faults store.old store.new out.old out.new err.old err.new (classes_by known trusted.old.items) (classes_by known trusted.new.items)) ⊎ HasFailedToSave (map string_bytes words.now) (outside S.contents S.faults O.held O.faults E.held E.faults store.old store.new out.old out.new err.old err.new (classes_by known trusted.old.items) (classes_by known trusted.new.items)) }
+    ensures ran_out { result ≡ Status.NoMemory → HasNoMemory (outside S.contents S.faults O.held O.faults E.held E.faults store.old store.new out.old out.new err.old err.new (classes_by known trusted.old.items) (classes_by known trusted.new.items)) ⊎ HasRunOut (map string_bytes words.now) (outside S.contents S.faults O.held O.faults E.held E.faults store.old store.new out.old out.new err.old err.new (classes_by known trusted.old.items) (classes_by known trusted.new.items)) }
     // With Usage nothing is loaded, saved or put to `out`.
     ensures not_loaded { result ≡ Status.Usage → store.new ≡ store.old }
     ensures out_usage { result ≡ Status.Usage → out.new ≡ out.old }
     ensures err_usage { result ≡ Status.Usage → MayHaveGot usage_line (stream E.held E.faults err.old err.new) }
+    // No class gets or loses a releaser, and only `run` asks one.
+    ensures held { held_of (classes_by known trusted.new.items) ≡ held_of (classes_by known trusted.old.items) }
+    ensures unasked { (command : said.Command) → IsCommand (map string_bytes words.now) command → asks command ≡ false → trusted.new ≡ trusted.old }
+    ensures trusted_usage { result ≡ Status.Usage → trusted.new ≡ trusted.old }
     // What never falls.
     ensures store_counted { S.faults store.old ≤ S.faults store.new }
     ensures out_counted { O.faults out.old ≤ O.faults out.new }
@@ -87,7 +97,7 @@ pub fn confllvm<S: Store, O: Sink, E: Sink>(
     };
     let name = command.name();
     match store.load(alloc, name) {
-        Ok(bytes) => tell(alloc, &command, &bytes, store, out, err),
+        Ok(bytes) => tell(alloc, &command, &bytes, store, out, err, trusted),
         Err(StoreError::NoMemory) => tell_no_memory(err),
         Err(StoreError::Missing) => tell_store_fault(alloc, name, err),
         Err(StoreError::Failed) => tell_store_fault(alloc, name, err),
@@ -102,8 +112,11 @@ fn tell<S: Store, O: Sink, E: Sink>(
     store: &mut S,
     out: &mut O,
     err: &mut E,
+    trusted: &mut Vec<Option<Box<dyn Trusted>>>,
 ) -> Status
-    ensures does { Does result (command_of command.now) bytes.now (outside S.contents S.faults O.held O.faults E.held E.faults store.old store.new out.old out.new err.old err.new) }
+    ensures does { Does result (command_of command.now) bytes.now (outside S.contents S.faults O.held O.faults E.held E.faults store.old store.new out.old out.new err.old err.new (classes_by known trusted.old.items) (classes_by known trusted.new.items)) }
+    ensures held { held_of (classes_by known trusted.new.items) ≡ held_of (classes_by known trusted.old.items) }
+    ensures unasked { asks (command_of command.now) ≡ false → trusted.new ≡ trusted.old }
     ensures store_counted { S.faults store.old ≤ S.faults store.new }
     ensures out_counted { O.faults out.old ≤ O.faults out.new }
     ensures err_counted { E.faults err.old ≤ E.faults err.new }
@@ -111,7 +124,7 @@ fn tell<S: Store, O: Sink, E: Sink>(
     match command {
         Command::Verify { .. } => tell_verdict(alloc, bytes, out, err),
         Command::Run { steps, files, .. } => {
-            tell_run(alloc, bytes, *steps, *files, store, out, err)
+            tell_run(alloc, bytes, *steps, *files, store, out, err, trusted)
         }
         Command::Disasm { .. } => tell_listing(alloc, bytes, out, err),
     }

@@ -1,8 +1,10 @@
 //! What `disasm` does with the bytes of a file.
 
-ghost use Rattle.std.specs.Prelude.{◌≤◌, ℕ, List, [], IfOk};
+ghost use Rattle.std.specs.Prelude.{◌≤◌, ℕ, List, [], IfOk, Option};
 ghost use Rattle.std.specs.String.{string_bytes};
 ghost use Rattle.command_line.specs.Commands.{Disasm};
+ghost use Rattle.cv_io.specs.Releasers.{Classes};
+ghost use Rattle.cv_word.specs.GateStep.{Tape};
 ghost use Rattle.confllvm_top.specs.Answers.{IsAnswer};
 ghost use Rattle.confllvm_top.specs.Endings.{Does};
 ghost use Rattle.confllvm_top.specs.Inputs.{image_alone};
@@ -25,7 +27,7 @@ pub(crate) fn tell_listing<O: Sink, E: Sink>(
     out: &mut O,
     err: &mut E,
 ) -> Status
-    ensures does { (name : List ℕ) (s : Shelf) → HasSaved [] s → Does result (Disasm name) bytes.now (record { out = stream O.held O.faults out.old out.new; err = stream E.held E.faults err.old err.new; store = s }) }
+    ensures does { (name : List ℕ) (s : Shelf) (classes : Classes) → HasSaved [] s → Does result (Disasm name) bytes.now (record { out = stream O.held O.faults out.old out.new; err = stream E.held E.faults err.old err.new; store = s; classes_before = classes; classes = classes }) }
     ensures out_counted { O.faults out.old ≤ O.faults out.new }
     ensures err_counted { E.faults err.old ≤ E.faults err.new }
 {
@@ -37,7 +39,7 @@ pub(crate) fn tell_listing<O: Sink, E: Sink>(
 
 /// The text of the bytes' listing, or the line of the refusal.
 fn listing_of(alloc: Global, bytes: &[u8]) -> Result<Told, NoMemory>
-    ensures { IfOk result (λ told. (name : List ℕ) → IsAnswer told.status (Disasm name) (image_alone bytes.now) (line_out (string_bytes told.line))) }
+    ensures { IfOk result (λ told. (name : List ℕ) (tapes : List (Option Tape)) → IsAnswer told.status (Disasm name) (image_alone bytes.now tapes) (line_out (string_bytes told.line))) }
 {
     match list_items(alloc, bytes) {
         Ok(listing) => {

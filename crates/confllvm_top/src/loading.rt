@@ -1,6 +1,7 @@
 //! Loading the inputs of `run`.
 
-ghost use Rattle.std.specs.Prelude.{◌≡◌, ◌≤◌, ℕ, List, IfErr, IfOk};
+ghost use Rattle.std.specs.Prelude.{◌≡◌, ◌≤◌, ℕ, List, IfErr, IfOk, Option};
+ghost use Rattle.cv_word.specs.GateStep.{Tape};
 ghost use Rattle.command_line.specs.Words.{files_of, text_of};
 ghost use Rattle.confllvm_top.specs.Loading.{HasInput, HasInputs, IsInput, Lacks, LacksInput};
 ghost use Rattle.confllvm_top.specs.Loads.{IsLoadFault};
@@ -35,7 +36,7 @@ pub(crate) fn load_inputs<'a, S: Store>(
     files: RunFiles<'a>,
     store: &mut S,
 ) -> Result<Inputs, LoadFault<'a>>
-    ensures inputs { IfOk result (λ inputs. (image : List ℕ) → HasInputs (S.contents store.old) (files_of files.entry) (loaded_with image inputs)) }
+    ensures inputs { IfOk result (λ inputs. (image : List ℕ) (tapes : List (Option Tape)) → HasInputs (S.contents store.old) (files_of files.entry) (loaded_with image inputs tapes)) }
     ensures fault { IfErr result (λ fault. IsLoadFault fault (IsInput (files_of files.entry)) (ToldAnd (S.contents store.old) (λ told. LacksInput told (files_of files.entry))) (shelf S.contents S.faults store.old store.new)) }
     ensures unchanged { S.contents store.new ≡ S.contents store.old }
     ensures counted { S.faults store.old ≤ S.faults store.new }

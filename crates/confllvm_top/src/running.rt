@@ -1,21 +1,24 @@
 //! What `run` does with the bytes of a file.
 
-ghost use Rattle.std.specs.Prelude.{◌≡◌, ◌≤◌, ℕ, List, [], IfOk};
+ghost use Rattle.std.specs.Prelude.{◌≡◌, ◌≤◌, ℕ, List, [], IfOk, Option};
 ghost use Rattle.std.specs.String.{string_bytes};
 ghost use Rattle.conf_verify.specs.Verdict.{IsImage};
 ghost use Rattle.command_line.specs.Commands.{Run};
 ghost use Rattle.command_line.specs.Words.{files_of};
 ghost use Rattle.confllvm_top.specs.Endings.{Does};
-ghost use Rattle.confllvm_top.specs.Inputs.{finding_in, loaded_with, saves_of};
+ghost use Rattle.confllvm_top.specs.Inputs.{loaded_with, saves_of};
 ghost use Rattle.confllvm_top.specs.Lines.{refused_line};
 ghost use Rattle.confllvm_top.specs.Loading.{Loaded};
 ghost use Rattle.confllvm_top.specs.Loads.{LoadTold};
+ghost use Rattle.cv_io.specs.Releasers.{classes_by, held_of};
+ghost use Rattle.cv_word.specs.GateStep.{Tape};
 ghost use Rattle.cv_word.specs.Words.{AreBytes};
 ghost use Rattle.x64_machine.specs.Entries.{entries};
 ghost use Rattle.x64_machine.specs.Start.{start_state};
 ghost use Rattle.confllvm_top.specs.Outsides.{outside};
 ghost use Rattle.confllvm_top.specs.Plans.{HasSaved, PlanEnds, Shelf, line_err, shelf};
-ghost use Rattle.confllvm_top.specs.Running.{RunsTo, outcome_line, schedule_of, status_of, used_of};
+ghost use Rattle.confllvm_top.specs.Ran.{HasRunWith};
+ghost use Rattle.confllvm_top.specs.Running.{outcome_line, schedule_of, status_of, used_of};
 ghost use Rattle.confllvm_top.specs.Streams.{HasGotNothing, Stream, stream};
 
 use crate::lines;
@@ -24,12 +27,12 @@ use crate::status::Status;
 use crate::telling::{Saves, Told, put_line, put_run, tell_no_memory, tell_store_fault};
 use command_line::RunFiles;
 use conf_verify::{Rule, Verified, VerifyError, one_verdict, verify};
-use cv_io::{Sink, Store};
+use cv_io::{Sink, Store, Trusted};
 use cv_word::NoMemory;
 use std::alloc::Global;
 use x64_machine::{Machine, Outcome, Schedule};
 
-/// Verifies the bytes, loads the inputs that are named, and runs the image: over the first `steps` bytes of the schedule, or over a
+/// Verifies the bytes, loads the inputs that are named, and runs the image with these releasers: over the first `steps` bytes of the schedule, or over a
 /// round robin of as many entries. Then the public output goes to `out`, the private output and the audit are saved where they are
 /// named, and the line that tells how the run ended goes to `err`. Where the bytes are refused, nothing is loaded or run, and their
 /// line is all that is put.
@@ -41,8 +44,10 @@ pub(crate) fn tell_run<S: Store, O: Sink, E: Sink>(
     store: &mut S,
     out: &mut O,
     err: &mut E,
+    trusted: &mut Vec<Option<Box<dyn Trusted>>>,
 ) -> Status
-    ensures does { (name : List ℕ) → Does result (Run name steps (files_of files.entry)) bytes.now (outside S.contents S.faults O.held O.faults E.held E.faults store.old store.new out.old out.new err.old err.new) }
+    ensures does { (name : List ℕ) → Does result (Run name steps (files_of files.entry)) bytes.now (outside S.contents S.faults O.held O.faults E.held E.faults store.old store.new out.old out.new err.old err.new (classes_by known trusted.old.items) (classes_by known trusted.new.items)) }
+    ensures held { held_of (classes_by known trusted.new.items) ≡ held_of (classes_by known trusted.old.items) }
     ensures store_counted { S.faults store.old ≤ S.faults store.new }
     ensures out_counted { O.faults out.old ≤ O.faults out.new }
     ensures err_counted { E.faults err.old ≤ E.faults err.new }
@@ -52,7 +57,7 @@ pub(crate) fn tell_run<S: Store, O: Sink, E: Sink>(
         Ok(image) => {
             ni_laws::accepted_law();
             match load_inputs(alloc, files, store) {
-                Ok(inputs) => match run_image(alloc, &image, steps, files, &inputs) {
+                Ok(inputs) => match run_image(alloc, &image, steps, files, &inputs, trusted) {
                     Ok(ran) => put_run(
                         alloc,
                         &ran.told,
@@ -102,24 +107,34 @@ struct Ran<'a> {
     told: Told,
 }
 
-/// Runs the image with these inputs.
+/// Runs the image with these inputs, and asks the releasers.
 fn run_image<'a>(
     alloc: Global,
     image: &Verified<'a>,
     steps: u64,
     files: RunFiles<'_>,
     inputs: &'a Inputs,
+    trusted: &mut Vec<Option<Box<dyn Trusted>>>,
 ) -> Result<Ran<'a>, NoMemory>
-    ensures runs { IfOk result (λ ran. (bytes : List ℕ) → IsImage bytes image.now.image → RunsTo (loaded_with bytes inputs.now) steps (files_of files.entry) (finding_in ran.machine)) }
-    ensures status { IfOk result (λ ran. (bytes : List ℕ) → ran.told.status ≡ status_of (used_of (files_of files.entry) steps (loaded_with bytes inputs.now)) ran.machine.outcome) }
-    ensures line { IfOk result (λ ran. (bytes : List ℕ) → string_bytes ran.told.line ≡ outcome_line (used_of (files_of files.entry) steps (loaded_with bytes inputs.now)) ran.machine.outcome) }
+    ensures runs { IfOk result (λ ran. (bytes : List ℕ) → IsImage bytes image.now.image → HasRunWith (loaded_with bytes inputs.now) steps (files_of files.entry) ran.machine (classes_by known trusted.old.items) (classes_by known trusted.new.items)) }
+    ensures status { IfOk result (λ ran. (bytes : List ℕ) (tapes : List (Option Tape)) → ran.told.status ≡ status_of (used_of (files_of files.entry) steps (loaded_with bytes inputs.now tapes)) ran.machine.outcome) }
+    ensures line { IfOk result (λ ran. (bytes : List ℕ) (tapes : List (Option Tape)) → string_bytes ran.told.line ≡ outcome_line (used_of (files_of files.entry) steps (loaded_with bytes inputs.now tapes)) ran.machine.outcome) }
+    ensures held { held_of (classes_by known trusted.new.items) ≡ held_of (classes_by known trusted.old.items) }
 {
     let private = image.parts().private;
     let mut machine = start_machine(alloc, image, &inputs.public, &inputs.private, private)?;
     let (schedule, used) = schedule_of(files, steps, &inputs.schedule);
-    let outcome = machine.run(schedule);
+    let outcome = machine.run(schedule, trusted);
+    are_bytes(machine.audit());
     let told = told_of(alloc, outcome, used)?;
     Ok(Ran { machine, told })
+}
+
+/// What a slice holds is bytes, as the laws ask.
+fn are_bytes(bytes: &[u8])
+    ensures { AreBytes bytes.now }
+{
+    let _bytes = bytes;
 }
 
 /// A machine at the start of the image, with both inputs and the image's private bytes.

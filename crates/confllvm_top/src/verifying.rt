@@ -1,7 +1,9 @@
 //! What `verify` does with the bytes of a file.
 
-ghost use Rattle.std.specs.Prelude.{◌≤◌, ℕ, List, [], IfOk};
+ghost use Rattle.std.specs.Prelude.{◌≤◌, ℕ, List, [], IfOk, Option};
 ghost use Rattle.std.specs.String.{string_bytes};
+ghost use Rattle.cv_io.specs.Releasers.{Classes};
+ghost use Rattle.cv_word.specs.GateStep.{Tape};
 ghost use Rattle.confllvm_top.specs.Answers.{IsAnswer};
 ghost use Rattle.command_line.specs.Commands.{Verify};
 ghost use Rattle.confllvm_top.specs.Endings.{Does};
@@ -24,7 +26,7 @@ pub(crate) fn tell_verdict<O: Sink, E: Sink>(
     out: &mut O,
     err: &mut E,
 ) -> Status
-    ensures does { (name : List ℕ) (s : Shelf) → HasSaved [] s → Does result (Verify name) bytes.now (record { out = stream O.held O.faults out.old out.new; err = stream E.held E.faults err.old err.new; store = s }) }
+    ensures does { (name : List ℕ) (s : Shelf) (classes : Classes) → HasSaved [] s → Does result (Verify name) bytes.now (record { out = stream O.held O.faults out.old out.new; err = stream E.held E.faults err.old err.new; store = s; classes_before = classes; classes = classes }) }
     ensures out_counted { O.faults out.old ≤ O.faults out.new }
     ensures err_counted { E.faults err.old ≤ E.faults err.new }
 {
@@ -36,7 +38,7 @@ pub(crate) fn tell_verdict<O: Sink, E: Sink>(
 
 /// Verifies the bytes, and writes the line that tells what they are.
 fn verdict_of(alloc: Global, bytes: &[u8]) -> Result<Told, NoMemory>
-    ensures { IfOk result (λ told. (name : List ℕ) → IsAnswer told.status (Verify name) (image_alone bytes.now) (line_out (string_bytes told.line))) }
+    ensures { IfOk result (λ told. (name : List ℕ) (tapes : List (Option Tape)) → IsAnswer told.status (Verify name) (image_alone bytes.now tapes) (line_out (string_bytes told.line))) }
 {
     match verify(alloc, bytes) {
         Ok(verified) => {

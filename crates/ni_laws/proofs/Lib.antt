@@ -1,4 +1,4 @@
-mod Bytes
+pub mod Bytes
 mod Registers
 mod Sides
 mod Rows

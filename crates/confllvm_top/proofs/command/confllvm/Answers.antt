@@ -1,19 +1,26 @@
 use Rattle.std.proofs.Common.{rules, refl, inl, inr}
 use Rattle.cv_io.specs.Files.{HasFile}
+use Rattle.cv_io.specs.Releasers.{Classes, classes_by}
 use Rattle.command_line.specs.Commands.{name_of}
 use Rattle.command_line.specs.Words.{command_of}
 use Rattle.confllvm_top.specs.Endings.{Does, Outside}
 use Rattle.confllvm_top.specs.Outsides.{outside}
-use Rattle.confllvm_top.proofs.EndingLemmas.{cut_off-failed, ended-answered, ended-checked, ended-cut_off, ended-exact, ended-ran_out, ended-store_fault, ended-told, ended-unsaved, has_named, lacks_named}
-use Rattle.confllvm_top.proofs.OneAnswer.{by_image}
+use Rattle.confllvm_top.proofs.EndingLemmas.{cut_off-failed, ended-answered, ended-checked, ended-cut_off, ended-exact, ended-ran_out, ended-store_fault, ended-told, ended-unsaved, has_named, lacks_named, tells_class}
+use Rattle.confllvm_top.proofs.OneAnswer.{by_image, ended-trust_fault}
 use Rattle.confllvm_top.proofs.PlanLemmas.{does_since}
 use Rattle.confllvm_top.proofs.command.confllvm.Given.{Over}
 use Rattle.confllvm_top.proofs.command.confllvm.Goals as goal
 
+abbrev classes_before : (g : Over) (c : goal.After-drop-bytes g) → Classes
+classes_before g c = classes_by (λ z. (goal.Trusted-dyn g (z.vtable, z.value)).known z.value) c.args.trusted.now.items
+
+abbrev classes_after : (g : Over) (c : goal.After-drop-bytes g) → Classes
+classes_after g c = classes_by (λ z. (goal.Trusted-dyn g (z.vtable, z.value)).known z.value) c.tell.new.trusted.items
+
 abbrev outside_of : (g : Over) (c : goal.After-drop-bytes g) → Outside
 outside_of g c =
     outside g.S.Store.contents g.S.Store.faults g.O.Sink.held g.O.Sink.faults g.E.Sink.held g.E.Sink.faults c.args.store.now c.tell.new.store c.args.out.now c.tell.new.out
-    c.args.err.now c.tell.new.err
+    c.args.err.now c.tell.new.err (classes_before g c) (classes_after g c)
 
 -- what the command was done with, and what it did
 has : (g : Over) (c : goal.After-drop-bytes g) → HasFile (g.S.Store.contents c.args.store.now) (name_of (command_of c.in-Ok.command)) c.deref.result.now
@@ -24,7 +31,7 @@ does g c =
     does_since c.tell.result (command_of c.in-Ok.command) c.deref.result.now _ _
     (g.S.Store.contents c.args.store.now) (g.S.Store.contents c.load.new.self) (g.S.Store.contents c.tell.new.store)
     (g.S.Store.faults c.args.store.now) (g.S.Store.faults c.load.new.self) (g.S.Store.faults c.tell.new.store)
-    c.load.ensures.unchanged c.load.ensures.counted c.tell.ensures.does
+    _ _ c.load.ensures.unchanged c.load.ensures.counted c.tell.ensures.does
 
 pub returns-in-Ok-load-clause-checked : goal.returns-in-Ok-load-clause-checked
 returns-in-Ok-load-clause-checked g c =
@@ -49,6 +56,11 @@ returns-in-Ok-load-clause-store_fault g c =
 pub returns-in-Ok-load-clause-sink_fault : goal.returns-in-Ok-load-clause-sink_fault
 returns-in-Ok-load-clause-sink_fault g c =
     λ fault. cut_off-failed _ (outside_of g c) (ended-cut_off _ (outside_of g c) (command_of c.in-Ok.command) c.deref.result.now c.tell.result c.in-Ok.ensures.said (has g c) (does g c) fault)
+
+pub returns-in-Ok-load-clause-trust_fault : goal.returns-in-Ok-load-clause-trust_fault
+returns-in-Ok-load-clause-trust_fault g c = λ class is.
+    ended-trust_fault _ (outside_of g c) c.tell.result class is
+    (ended-told _ (outside_of g c) (command_of c.in-Ok.command) c.deref.result.now c.tell.result c.in-Ok.ensures.said (has g c) (does g c) (tells_class class c.tell.result is))
 
 pub returns-in-Ok-load-clause-cut_off : goal.returns-in-Ok-load-clause-cut_off
 returns-in-Ok-load-clause-cut_off g c =
@@ -78,6 +90,7 @@ returns-in-Err-Missing-clause-unsaved g c = λ fault. inl (record {
   said = c.in-Ok.ensures.said;
   failed = record {
     quiet = record { out = refl; store = c.load.ensures.unchanged };
+    unasked = refl;
     name = c.name-name.result.now;
     loads = inl c.name-name.ensures;
     tells = c.tell_store_fault.ensures.line fault;
@@ -96,6 +109,7 @@ returns-in-Err-Failed-clause-unsaved g c = λ fault. inl (record {
   said = c.in-Ok.ensures.said;
   failed = record {
     quiet = record { out = refl; store = c.load.ensures.unchanged };
+    unasked = refl;
     name = c.name-name.result.now;
     loads = inl c.name-name.ensures;
     tells = c.tell_store_fault-in-Err-Failed.ensures.line fault;
