@@ -1,6 +1,6 @@
 //! What `run` does with the bytes of a file.
 
-ghost use Rattle.std.specs.Prelude.{◌≡◌, ◌≤◌, ℕ, List, [], IfOk, Option};
+ghost use Rattle.std.specs.Prelude.{true, length, ◌≡◌, ◌≤◌, ℕ, List, [], IfOk, Option};
 ghost use Rattle.std.specs.String.{string_bytes};
 ghost use Rattle.conf_verify.specs.Verdict.{IsImage};
 ghost use Rattle.command_line.specs.Commands.{Run};
@@ -14,6 +14,8 @@ ghost use Rattle.cv_io.specs.Releasers.{classes_by, held_of};
 ghost use Rattle.cv_word.specs.GateStep.{Tape};
 ghost use Rattle.cv_word.specs.Words.{AreBytes};
 ghost use Rattle.x64_machine.specs.Entries.{entries};
+ghost use Rattle.x64_machine.specs.Failures.{HasRun};
+ghost use Rattle.x64_machine.specs.Run.{is_running};
 ghost use Rattle.x64_machine.specs.Start.{start_state};
 ghost use Rattle.confllvm_top.specs.Outsides.{outside};
 ghost use Rattle.confllvm_top.specs.Plans.{HasSaved, PlanEnds, Shelf, line_err, shelf};
@@ -124,10 +126,23 @@ fn run_image<'a>(
     let private = image.parts().private;
     let mut machine = start_machine(alloc, image, &inputs.public, &inputs.private, private)?;
     let (schedule, used) = schedule_of(files, steps, &inputs.schedule);
-    let outcome = machine.run(schedule, trusted);
+    let outcome = run_machine(&mut machine, schedule, trusted);
     are_bytes(machine.audit());
     let told = told_of(alloc, outcome, used)?;
     Ok(Ran { machine, told })
+}
+
+/// Runs a machine whose run hasn't ended, and asks the releasers.
+fn run_machine(
+    machine: &mut Machine<'_>,
+    schedule: Schedule<'_>,
+    trusted: &mut Vec<Option<Box<dyn Trusted>>>,
+) -> Outcome
+    requires { is_running machine.old.outcome ≡ true }
+    ensures after { HasRun (entries schedule.entry (length machine.old.cores)) (classes_by known trusted.old.items) (classes_by known trusted.new.items) machine.old machine.new }
+    ensures outcome { result ≡ machine.new.outcome }
+{
+    machine.run(schedule, trusted)
 }
 
 /// What a slice holds is bytes, as the laws ask.

@@ -100,5 +100,10 @@ fn end_core(cores: &mut [Core], core: u8) -> Outcome
 fn have_ended(cores: &[Core]) -> bool
     ensures { result ≡ list_all (λ core. core.ended) cores.now }
 {
-    cores.iter().all(|core| core.ended)
+    for core in cores {
+        if !core.ended {
+            return false;
+        }
+    }
+    true
 }
