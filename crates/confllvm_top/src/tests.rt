@@ -1,12 +1,17 @@
 //! The lines and statuses of the commands by hand, over stores and sinks in memory that succeed or fail.
 
 mod gates;
+mod releases;
 mod rows;
 
 use self::gates::{EIGHT_CORES, FILLS_OUTPUT, FILLS_PRIVATE_OUTPUT, GATES, ONE_STEP, TWO_CORES};
+use self::releases::{
+    FILLS_AUDIT, LONGEST, PASSES_AUDIT, RELEASES_INPUT, RELEASES_NONE, RELEASES_ONE,
+    RELEASES_TO_THREE, RELEASES_TWICE, RELEASES_TWO, TOO_LONG,
+};
 use self::rows::{CODES, LISTINGS, PREFIX, RUNS};
 use super::*;
-use cv_io::{MemSink, MemStore, Store};
+use cv_io::{MemSink, MemStore, Store, Trusted, XorPad};
 use cv_word::NoMemory;
 use std::alloc::Global;
 use std::process::Abort;
@@ -40,6 +45,18 @@ fn words(alloc: Global, texts: &[&str]) -> Result<Vec<String>, NoMemory> {
     Ok(words)
 }
 
+/// Does a command where no class has a releaser.
+fn alone(
+    alloc: Global,
+    line: &[String],
+    store: &mut MemStore,
+    out: &mut MemSink,
+    err: &mut MemSink,
+) -> Status {
+    let mut none: Vec<Option<Box<dyn Trusted>>> = Vec::new(alloc);
+    confllvm(alloc, line, store, out, err, &mut none)
+}
+
 /// Asserts what a command answers over a file `img`: the exit status, and what `out` and `err` hold.
 fn assert_told(
     rt: &impl Abort,
@@ -51,7 +68,7 @@ fn assert_told(
     let mut store = MemStore::new(alloc);
     store.add("img", bytes)?;
     let (mut out, mut err) = (MemSink::new(alloc), MemSink::new(alloc));
-    let status = confllvm(alloc, &words(alloc, texts)?, &mut store, &mut out, &mut err);
+    let status = alone(alloc, &words(alloc, texts)?, &mut store, &mut out, &mut err);
     assert_eq!(rt; status.code(), wanted.0);
     assert_eq!(rt; out.bytes(), wanted.1);
     assert_eq!(rt; err.bytes(), wanted.2);
@@ -166,7 +183,7 @@ fn tells_a_failing_store_and_sink(rt: HostRuntime) -> Result<(), Fail> {
     store.add("img", &SMALL)?;
     let (mut out, mut err) = (MemSink::new(alloc), MemSink::new(alloc));
     out.fail_at(1, 3)?;
-    let status = confllvm(alloc, &line, &mut store, &mut out, &mut err);
+    let status = alone(alloc, &line, &mut store, &mut out, &mut err);
     assert_eq!(rt; status.code(), 4);
     assert_eq!(rt; out.bytes(), b"acc".as_slice());
     assert_eq!(rt; err.bytes(), b"".as_slice());
@@ -180,7 +197,7 @@ fn tells_a_failing_store_and_sink(rt: HostRuntime) -> Result<(), Fail> {
     for (put, told) in cases {
         let mut third = MemSink::new(alloc);
         third.fail_at(put, 5)?;
-        let status = confllvm(alloc, &listing, &mut store, &mut third, &mut err);
+        let status = alone(alloc, &listing, &mut store, &mut third, &mut err);
         assert_eq!(rt; status, Status::SinkFault);
         assert_eq!(rt; third.bytes(), told);
         assert_eq!(rt; err.bytes(), b"".as_slice());
@@ -190,7 +207,7 @@ fn tells_a_failing_store_and_sink(rt: HostRuntime) -> Result<(), Fail> {
     failing.add("img", &SMALL)?;
     failing.fail_at(1)?;
     let mut second = MemSink::new(alloc);
-    let status = confllvm(alloc, &line, &mut failing, &mut second, &mut err);
+    let status = alone(alloc, &line, &mut failing, &mut second, &mut err);
     assert_eq!(rt; status, Status::StoreFault);
     assert_eq!(rt; failing.faults(), 1);
     assert_eq!(rt; second.bytes(), b"".as_slice());
@@ -198,7 +215,7 @@ fn tells_a_failing_store_and_sink(rt: HostRuntime) -> Result<(), Fail> {
     let mut deaf = MemSink::new(alloc);
     deaf.fail_at(1, 2)?;
     let wrong = words(alloc, &["frobnicate"])?;
-    let status = confllvm(alloc, &wrong, &mut store, &mut second, &mut deaf);
+    let status = alone(alloc, &wrong, &mut store, &mut second, &mut deaf);
     assert_eq!(rt; status, Status::Usage);
     assert_eq!(rt; deaf.bytes(), b"us".as_slice());
     Ok(())
@@ -215,14 +232,14 @@ fn tells_a_failing_sink_of_a_run(rt: HostRuntime) -> Result<(), Fail> {
     out.fail_at(1, 3)?;
     err.fail_at(1, 3)?;
     err.fail_at(2, 4)?;
-    let status = confllvm(alloc, &line, &mut store, &mut out, &mut err);
+    let status = alone(alloc, &line, &mut store, &mut out, &mut err);
     assert_eq!(rt; status, Status::SinkFault);
     assert_eq!(rt; err.bytes(), b"".as_slice());
-    let status = confllvm(alloc, &line, &mut store, &mut out, &mut err);
+    let status = alone(alloc, &line, &mut store, &mut out, &mut err);
     assert_eq!(rt; status, Status::SinkFault);
     assert_eq!(rt; err.bytes(), b"fau".as_slice());
     store.add("img", b"")?;
-    let status = confllvm(alloc, &line, &mut store, &mut out, &mut err);
+    let status = alone(alloc, &line, &mut store, &mut out, &mut err);
     assert_eq!(rt; status, Status::SinkFault);
     assert_eq!(rt; err.bytes(), b"faurefu".as_slice());
     assert_eq!(rt; out.bytes(), b"".as_slice());
@@ -256,7 +273,7 @@ fn tells_what_gates_do(rt: HostRuntime) -> Result<(), Fail> {
         store.add("p", public)?;
         store.add("q", private)?;
         let (mut out, mut err) = (MemSink::new(alloc), MemSink::new(alloc));
-        let ended = confllvm(alloc, &line, &mut store, &mut out, &mut err);
+        let ended = alone(alloc, &line, &mut store, &mut out, &mut err);
         assert_eq!(rt; ended.code(), *status);
         assert_eq!(rt; out.bytes(), *told);
         assert_eq!(rt; err.bytes(), *text);
@@ -291,7 +308,7 @@ fn tells_an_output_at_its_limit(rt: HostRuntime) -> Result<(), Fail> {
         store.add("p", b"")?;
         store.add("q", b"")?;
         let (mut out, mut err) = (MemSink::new(alloc), MemSink::new(alloc));
-        let ended = confllvm(alloc, &line, &mut store, &mut out, &mut err);
+        let ended = alone(alloc, &line, &mut store, &mut out, &mut err);
         assert_eq!(rt; ended.code(), 5);
         assert_eq!(rt; out.bytes().len(), told);
         assert_eq!(rt; err.bytes(), text);
@@ -340,7 +357,7 @@ fn tells_what_two_cores_do(rt: HostRuntime) -> Result<(), Fail> {
         store.add("img", bytes.as_slice())?;
         store.add("s", schedule)?;
         let (mut out, mut err) = (MemSink::new(alloc), MemSink::new(alloc));
-        let ended = confllvm(alloc, &line, &mut store, &mut out, &mut err);
+        let ended = alone(alloc, &line, &mut store, &mut out, &mut err);
         assert_eq!(rt; ended.code(), status);
         assert_eq!(rt; out.bytes(), told);
         assert_eq!(rt; err.bytes(), text);
@@ -366,7 +383,7 @@ fn assert_run(
     store.add("img", bytes)?;
     store.add("s", schedule)?;
     let (mut out, mut err) = (MemSink::new(alloc), MemSink::new(alloc));
-    let ended = confllvm(alloc, &line, &mut store, &mut out, &mut err);
+    let ended = alone(alloc, &line, &mut store, &mut out, &mut err);
     assert_eq!(rt; ended.code(), wanted.0);
     assert_eq!(rt; out.bytes(), wanted.1);
     assert_eq!(rt; err.bytes(), wanted.2);
@@ -489,7 +506,7 @@ fn tells_what_was_saved_before_a_fault(rt: HostRuntime) -> Result<(), Fail> {
         let (mut out, mut err) = (MemSink::new(alloc), MemSink::new(alloc));
         out.fail_at(put, 0)?;
         err.fail_at(line_put, 4)?;
-        let ended = confllvm(alloc, &line, &mut store, &mut out, &mut err);
+        let ended = alone(alloc, &line, &mut store, &mut out, &mut err);
         assert_eq!(rt; ended.code(), status);
         assert_eq!(rt; out.bytes(), told);
         assert_eq!(rt; err.bytes(), text);
@@ -521,27 +538,27 @@ fn tells_a_missing_input(rt: HostRuntime) -> Result<(), Fail> {
     let (mut out, mut err) = (MemSink::new(alloc), MemSink::new(alloc));
     store.add("img", &SMALL[..53])?;
     assert_eq!(rt;
-        confllvm(alloc, &line, &mut store, &mut out, &mut err).code(),
+        alone(alloc, &line, &mut store, &mut out, &mut err).code(),
         1
     );
     store.add("img", &SMALL)?;
     assert_eq!(rt;
-        confllvm(alloc, &line, &mut store, &mut out, &mut err).code(),
+        alone(alloc, &line, &mut store, &mut out, &mut err).code(),
         3
     );
     store.add("s", b"\xff\xff\0")?;
     assert_eq!(rt;
-        confllvm(alloc, &line, &mut store, &mut out, &mut err).code(),
+        alone(alloc, &line, &mut store, &mut out, &mut err).code(),
         3
     );
     store.add("p", b"")?;
     assert_eq!(rt;
-        confllvm(alloc, &line, &mut store, &mut out, &mut err).code(),
+        alone(alloc, &line, &mut store, &mut out, &mut err).code(),
         3
     );
     store.add("q", b"")?;
     assert_eq!(rt;
-        confllvm(alloc, &line, &mut store, &mut out, &mut err).code(),
+        alone(alloc, &line, &mut store, &mut out, &mut err).code(),
         6
     );
     assert_eq!(rt;
@@ -550,4 +567,202 @@ fn tells_a_missing_input(rt: HostRuntime) -> Result<(), Fail> {
     );
     assert_eq!(rt; store.faults(), 0);
     Ok(())
+}
+
+/// The words of a run that saves its audit, over the private input `q`.
+const AUDITED: [&str; 7] = ["run", "img", "200", "--private", "q", "--audit", "a"];
+
+/// Runs an image with these releasers, and asserts how it ends and what it puts out; the answer is the audit.
+fn run_with(
+    rt: &impl Abort,
+    alloc: Global,
+    bytes: &[u8],
+    trusted: &mut Vec<Option<Box<dyn Trusted>>>,
+    wanted: (u8, &[u8], &[u8]),
+) -> Result<Vec<u8>, Fail> {
+    let mut store = MemStore::new(alloc);
+    store.add("img", bytes)?;
+    store.add("q", b"\x01\x02\x03")?;
+    let (mut out, mut err) = (MemSink::new(alloc), MemSink::new(alloc));
+    let line = words(alloc, &AUDITED)?;
+    let ended = confllvm(alloc, &line, &mut store, &mut out, &mut err, trusted);
+    assert_eq!(rt; ended.code(), wanted.0);
+    assert_eq!(rt; out.bytes(), wanted.1);
+    assert_eq!(rt; err.bytes(), wanted.2);
+    Ok(store.load(alloc, "a")?)
+}
+
+/// What the first releaser has heard and told, its count of faults, and the length of what failed.
+fn assert_kept(
+    rt: &impl Abort,
+    trusted: &Vec<Option<Box<dyn Trusted>>>,
+    wanted: (&[u8], &[u8], u64, u64),
+) {
+    match trusted.first() {
+        Some(Some(releaser)) => {
+            assert_eq!(rt; releaser.heard(), wanted.0);
+            assert_eq!(rt; releaser.told(), wanted.1);
+            assert_eq!(rt; releaser.faults(), wanted.2);
+            assert_eq!(rt; releaser.failed_len(), wanted.3);
+        }
+        _ => assert!(rt; false),
+    }
+}
+
+/// A release of class 0 with a pad and failing calls: how the run ends, its audit, and what the releaser keeps.
+fn assert_released(
+    rt: &impl Abort,
+    alloc: Global,
+    code: &[u8],
+    pad: (&[u8], &[u64]),
+    wanted: (u8, &[u8], &[u8], &[u8]),
+    kept: (&[u8], &[u8], u64, u64),
+) -> Result<(), Fail> {
+    let mut bytes = Vec::new(alloc);
+    bytes.extend_from_slice(pad.0)?;
+    let mut fails = Vec::new(alloc);
+    fails.extend_from_slice(pad.1)?;
+    let mut trusted: Vec<Option<Box<dyn Trusted>>> = Vec::new(alloc);
+    trusted.push(Some(Box::new(alloc, XorPad::new(alloc, bytes, fails)?)?))?;
+    let file = image(alloc, PREFIX, code)?;
+    let audit = run_with(
+        rt,
+        alloc,
+        file.as_slice(),
+        &mut trusted,
+        (wanted.0, wanted.1, wanted.2),
+    )?;
+    assert_eq!(rt; audit.as_slice(), wanted.3);
+    assert_kept(rt, &trusted, kept);
+    Ok(())
+}
+
+const FIVE_A: &[u8] = &[0x5a; 8];
+
+/// One byte in the audit: class 0, one byte, `5a`.
+const ONE_BYTE: &[u8] = b"\0\0\0\0\x01\0\0\0\x5a";
+
+/// Releases that are answered, and ones that fail: at a call, and for a pad that is one byte short. A release of no bytes is a call,
+/// and is listed.
+#[test]
+fn tells_releases(rt: HostRuntime) -> Result<(), Fail> {
+    let alloc = rt.alloc();
+    let ends: &[u8] = b"fault core 0 at 0x1002d Undefined\n";
+    let fails: &[u8] = b"trust fault class 0\n";
+    assert_released(
+        &rt,
+        alloc,
+        &RELEASES_ONE,
+        (b"\x5a", &[]),
+        (5, b"", ends, ONE_BYTE),
+        (b"\0", b"\x5a", 0, 0),
+    )?;
+    assert_released(
+        &rt,
+        alloc,
+        &RELEASES_ONE,
+        (b"\x5a", &[1]),
+        (8, b"", fails, b""),
+        (b"", b"", 1, 1),
+    )?;
+    assert_released(
+        &rt,
+        alloc,
+        &RELEASES_TWICE,
+        (FIVE_A, &[2]),
+        (8, b"", fails, ONE_BYTE),
+        (b"\0", b"\x5a", 1, 1),
+    )?;
+    assert_released(
+        &rt,
+        alloc,
+        &RELEASES_TWO,
+        (b"\x5a", &[]),
+        (8, b"", fails, b""),
+        (b"", b"", 1, 2),
+    )?;
+    assert_released(
+        &rt,
+        alloc,
+        &RELEASES_NONE,
+        (FIVE_A, &[2]),
+        (8, b"", fails, b"\0\0\0\0\0\0\0\0"),
+        (b"", b"", 1, 1),
+    )?;
+    assert_released(
+        &rt,
+        alloc,
+        &RELEASES_INPUT,
+        (b"\x10\x20\x30", &[]),
+        (
+            0,
+            b"\x11\x22\x33",
+            b"exit 0\n",
+            b"\0\0\0\0\x03\0\0\0\x11\x22\x33",
+        ),
+        (b"\x01\x02\x03", b"\x11\x22\x33", 0, 0),
+    )
+}
+
+/// Asserts that a release is refused, where there is no class or one without a releaser.
+fn assert_unreleased(
+    rt: &impl Abort,
+    alloc: Global,
+    trusted: &mut Vec<Option<Box<dyn Trusted>>>,
+) -> Result<(), Fail> {
+    let line: &[u8] = b"fault core 0 at 0x10c0 NoReleaser\n";
+    let one = image(alloc, PREFIX, &RELEASES_ONE)?;
+    let audit = run_with(rt, alloc, one.as_slice(), trusted, (5, b"", line))?;
+    assert!(rt; audit.is_empty());
+    Ok(())
+}
+
+#[test]
+fn tells_that_there_is_no_class(rt: HostRuntime) -> Result<(), Fail> {
+    let mut trusted: Vec<Option<Box<dyn Trusted>>> = Vec::new(rt.alloc());
+    assert_unreleased(&rt, rt.alloc(), &mut trusted)
+}
+
+#[test]
+fn tells_that_a_class_has_no_releaser(rt: HostRuntime) -> Result<(), Fail> {
+    let mut trusted: Vec<Option<Box<dyn Trusted>>> = Vec::new(rt.alloc());
+    trusted.push(None)?;
+    assert_unreleased(&rt, rt.alloc(), &mut trusted)
+}
+
+/// Class 3 of one class. Nobody is asked.
+#[test]
+fn tells_a_class_past_the_list(rt: HostRuntime) -> Result<(), Fail> {
+    assert_released(
+        &rt,
+        rt.alloc(),
+        &RELEASES_TO_THREE,
+        (FIVE_A, &[]),
+        (5, b"", b"fault core 0 at 0x10c0 NoReleaser\n", b""),
+        (b"", b"", 0, 0),
+    )
+}
+
+/// Runs a code in segments of 131,072 bytes with a pad of 1,048,576 zero bytes, up to an output at its limit, and asserts the
+/// audit's length.
+fn assert_fills(rt: &impl Abort, alloc: Global, code: &[u8], length: usize) -> Result<(), Fail> {
+    let mut bytes = image(alloc, PREFIX, code)?;
+    bytes[18] = 2;
+    let pad = vec![in alloc; 0u8; 1_048_576]?;
+    let mut trusted: Vec<Option<Box<dyn Trusted>>> = Vec::new(alloc);
+    trusted.push(Some(Box::new(alloc, XorPad::new(alloc, pad, Vec::new(alloc))?)?))?;
+    let line: &[u8] = b"fault core 0 at 0x10c0 OutLimit\n";
+    let audit = run_with(rt, alloc, bytes.as_slice(), &mut trusted, (5, b"", line))?;
+    assert_eq!(rt; audit.len(), length);
+    Ok(())
+}
+
+/// The longest release, one that is too long, and those that fill the audit exactly and that pass its limit by one byte.
+#[test]
+fn tells_long_releases(rt: HostRuntime) -> Result<(), Fail> {
+    let alloc = rt.alloc();
+    assert_fills(&rt, alloc, &TOO_LONG, 0)?;
+    assert_fills(&rt, alloc, &LONGEST, 15 * 65_544)?;
+    assert_fills(&rt, alloc, &FILLS_AUDIT, 1_048_576)?;
+    assert_fills(&rt, alloc, &PASSES_AUDIT, 16 * 61_681)
 }

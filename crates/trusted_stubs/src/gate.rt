@@ -78,7 +78,11 @@ fn waiting_place(
     let Some(at) = segs.read(Seg::Fs, top, Width::B4) else {
         return Err(FaultKind::Memory);
     };
-    if stands(segs, return_word(result_bit(gate.bits()), world.prefix()), at) {
+    if stands(
+        segs,
+        return_word(result_bit(gate.bits()), world.prefix()),
+        at,
+    ) {
         Ok(at)
     } else {
         Err(FaultKind::GateReturn)

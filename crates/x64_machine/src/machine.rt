@@ -71,11 +71,7 @@ impl<'a> Machine<'a> {
     /// has ended, or the core doesn't exist or has ended; a fault changes nothing but the outcome. Ended exactly where the run has
     /// ended after the step. A release asks the releaser of its class; where that fails, the outcome is Tape. It takes no memory
     /// but what a releaser takes for itself.
-    pub fn step(
-        &mut self,
-        core: u8,
-        trusted: &mut Vec<Option<Box<dyn Trusted>>>,
-    ) -> Progress
+    pub fn step(&mut self, core: u8, trusted: &mut Vec<Option<Box<dyn Trusted>>>) -> Progress
         ensures after { HasRun (core ∷ []) (classes_by known trusted.old.items) (classes_by known trusted.new.items) self.old self.new }
         ensures progress { result ≡ progress_of self.new.outcome }
         ensures ended { is_running self.old.outcome ≡ false → self.new ≡ self.old }
@@ -96,11 +92,7 @@ impl<'a> Machine<'a> {
     }
 
     /// All entries of a schedule in order, and the outcome after them. It takes no memory but what a releaser takes for itself.
-    pub fn run(
-        &mut self,
-        s: Schedule<'_>,
-        trusted: &mut Vec<Option<Box<dyn Trusted>>>,
-    ) -> Outcome
+    pub fn run(&mut self, s: Schedule<'_>, trusted: &mut Vec<Option<Box<dyn Trusted>>>) -> Outcome
         ensures after { HasRun (entries s.entry (length self.old.cores)) (classes_by known trusted.old.items) (classes_by known trusted.new.items) self.old self.new }
         ensures outcome { result ≡ self.new.outcome }
     {
