@@ -743,11 +743,22 @@ fn tells_a_class_past_the_list(rt: HostRuntime) -> Result<(), Fail> {
     )
 }
 
+/// An image like that of `image`, with segments of 131,072 bytes.
+fn wide_image(alloc: Global, code: &[u8]) -> Result<Vec<u8>, NoMemory> {
+    let mut bytes = Vec::new(alloc);
+    bytes.extend_from_slice(&SMALL[..18])?;
+    bytes.push(2)?;
+    bytes.extend_from_slice(&SMALL[19..24])?;
+    bytes.push((code.len() % 256) as u8)?;
+    bytes.extend_from_slice(&SMALL[25..44])?;
+    bytes.extend_from_slice(code)?;
+    Ok(bytes)
+}
+
 /// Runs a code in segments of 131,072 bytes with a pad of 1,048,576 zero bytes, up to an output at its limit, and asserts the
 /// audit's length.
 fn assert_fills(rt: &impl Abort, alloc: Global, code: &[u8], length: usize) -> Result<(), Fail> {
-    let mut bytes = image(alloc, PREFIX, code)?;
-    bytes[18] = 2;
+    let bytes = wide_image(alloc, code)?;
     let pad = vec![in alloc; 0u8; 1_048_576]?;
     let mut trusted: Vec<Option<Box<dyn Trusted>>> = Vec::new(alloc);
     trusted.push(Some(Box::new(alloc, XorPad::new(alloc, pad, Vec::new(alloc))?)?))?;
