@@ -3,11 +3,10 @@
 use Rattle.std.specs.Prelude.{◌≡◌, ◌⊎◌, ℕ, List, [], ◌∷◌, take, Option, Some, slice_get}
 use Rattle.cv_io.specs.Counts.{HasRisen}
 use Rattle.cv_io.specs.Files.{Files, files_with}
-use Rattle.cv_io.specs.Output.{AppendsFront}
 use Rattle.confllvm_top.specs.declared.status.Status.{Status}
 use Rattle.confllvm_top.specs.declared.status.Status.TheVariants.{StoreFault, SinkFault, NoMemory}
 use Rattle.confllvm_top.specs.Lines.{no_memory_line, store_fault_line}
-use Rattle.confllvm_top.specs.Streams.{Stream, HasGot, HasGotNothing, HasGotFront, MayHaveGot}
+use Rattle.confllvm_top.specs.Streams.{Stream, HasGot, HasGotNothing, HasGotFront, HasGotLines, MayHaveGot}
 
 -- a file that is saved under a name
 pub record Saving : Type 0 where
@@ -83,11 +82,15 @@ pub record IsUnsaved (plan : Plan) (out err : Stream) (s : Shelf) : Type 0 where
   pub faulted : HasFaulted s
   pub tells : MayHaveGot (store_fault_line saving.name) err
 
+-- Less than all was put to `out`: nothing, or whole lines of a plan that tells by lines to `out` alone.
+abbrev pub HasGotLess : Plan → Stream → Type 0
+HasGotLess plan out = HasGotNothing out ⊎ ((plan.err ≡ []) × HasGotLines plan.out out)
+
 -- memory was refused: before all was put to `out`, or behind that and so many saves
 abbrev pub RanOut : Plan → Stream → Stream → Shelf → Type 0
 RanOut plan out err s =
     MayHaveGot no_memory_line err
-    × ((AppendsFront out.held_before plan.out out.held × HasSaved [] s) ⊎ ((count : ℕ) × HasSavedFront plan count out s))
+    × ((HasGotLess plan out × HasSaved [] s) ⊎ ((count : ℕ) × HasSavedFront plan count out s))
 
 -- A plan that tells a status is carried out, and this is answered.
 abbrev pub PlanEnds : Status → Status → Plan → Stream → Stream → Shelf → Type 0

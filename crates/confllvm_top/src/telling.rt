@@ -3,13 +3,12 @@
 ghost use Rattle.std.specs.Prelude.{◌≡◌, ◌⊎◌, ◌<◌, ◌≤◌, [], ◌++◌, length, IsErrOf, OnOk};
 ghost use Rattle.std.specs.String.{string_bytes};
 ghost use Rattle.command_line.specs.Words.{text_of};
-ghost use Rattle.cv_io.specs.Output.{AppendsFront};
 ghost use Rattle.confllvm_top.specs.Inputs.{saves_of};
 ghost use Rattle.confllvm_top.specs.Lines.{no_memory_line, store_fault_line};
 ghost use Rattle.confllvm_top.specs.Loads.{SavesAll, SavesNamed};
 ghost use Rattle.confllvm_top.specs.Plans.{HasSaved, PlanEnds, Shelf, line_err, line_out, shelf};
 ghost use Rattle.confllvm_top.specs.Running.{saving};
-ghost use Rattle.confllvm_top.specs.Streams.{HasGot, HasGotFront, HasGotNothing, MayHaveGot, Stream, stream};
+ghost use Rattle.confllvm_top.specs.Streams.{EndsLine, HasGot, HasGotFront, HasGotLines, HasGotNothing, MayHaveGot, Stream, stream};
 
 use crate::lines;
 use crate::status::Status;
@@ -49,7 +48,7 @@ pub(crate) fn put_told<O: Sink, E: Sink>(told: &Told, out: &mut O, err: &mut E) 
 fn put_lines<O: Sink>(text: &[u8], out: &mut O) -> Result<(), SinkError>
     ensures all { OnOk result (HasGot text.now (stream O.held O.faults out.old out.new)) }
     ensures front { IsErrOf result SinkError.Failed → HasGotFront text.now (stream O.held O.faults out.old out.new) }
-    ensures short { IsErrOf result SinkError.NoMemory → AppendsFront (O.held out.old) text.now (O.held out.new) }
+    ensures short { IsErrOf result SinkError.NoMemory → HasGotLines text.now (stream O.held O.faults out.old out.new) }
     ensures counted { O.faults out.old ≤ O.faults out.new }
 {
     let mut start = 0;
@@ -68,6 +67,7 @@ fn line_end(text: &[u8], start: usize) -> usize
     requires { start < length text.now }
     ensures more { start < result }
     ensures inside { result ≤ length text.now }
+    ensures ends { EndsLine text.now result }
 {
     for i in start..text.len() {
         if text[i] == b'\n' {

@@ -6,6 +6,7 @@ use Rattle.confllvm_top.proofs.telling.put_lines.Goals as goal
 pub loop-start-preserved : goal.loop-start-preserved
 loop-start-preserved g c = record {
   inside = c.line_end-end.ensures.inside;
+  ends = c.line_end-end.ensures.ends;
   put = next_line c.args.text.now c.loop-start.start c.line_end-end.result _ _ _ (omega (arith, c.line_end-end.ensures.more)) c.loop-start.invariant.put c.in-Ok.ensures.all;
   counted = omega (arith, c.loop-start.invariant.counted, c.put.ensures.counted);
 }
