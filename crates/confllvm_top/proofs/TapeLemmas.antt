@@ -1,5 +1,5 @@
 -- The tapes of a run, by what the releasers answered in it.
-use Rattle.std.proofs.Common.{◌≡◌, ◌∙◌, ℕ, zero, suc, ◌+◌, arith, cond, eqb, Bool, true, false, List, [], ◌∷◌, ◌++◌, append-nil, length, map, Option, Some, None, unwrap_or, get_or, slice_get, is_some, refl, sym, ap, ap₂, subst, flat_map, inl, inr}
+use Rattle.std.proofs.Common.{◌≡◌, ◌∙◌, ℕ, zero, suc, ◌+◌, arith, cond, eqb, Bool, true, false, List, [], ◌∷◌, ◌++◌, append-nil, length, map, Option, Some, None, unwrap_or, slice_get, is_some, refl, sym, ap, ap₂, subst, flat_map, inl, inr}
 use Rattle.std.specs.Option.{option_map}
 use Rattle.std.proofs.Math.Path.{fun_ext}
 use Rattle.std.proofs.lemmas.Bool.{cases_Bool}
@@ -9,7 +9,7 @@ use Rattle.cv_word.specs.Words.{AreBytes, word_bytes}
 use Rattle.cv_word.specs.GateStep.{Releasers, Tape, TapeState, audit_entry, is_short}
 use Rattle.cv_io.specs.Releasers.{Classes, held_of, is_held}
 use Rattle.ni_laws.proofs.Bytes.{left_bytes, right_bytes, append_bytes}
-use Rattle.trusted_stubs.specs.Events.{Event, Request, FailsAt, IsKnownAfter, MayFollow, audit_of, known_after, of_class, put_back, told_by, with_answers}
+use Rattle.trusted_stubs.specs.Events.{Event, Request, IsKnownAfter, MayFollow, audit_of, known_after, of_class, put_back, told_by, with_answers}
 use Rattle.trusted_stubs.proofs.EventLemmas.{held_of-known_after}
 use Rattle.x64_machine.specs.Start.{fresh_tape, start_releasers}
 use Rattle.x64_machine.proofs.GateLemmas.{nothing_follows}

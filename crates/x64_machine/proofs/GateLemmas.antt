@@ -5,14 +5,14 @@ use Rattle.std.specs.List.{list_all}
 use Rattle.std.proofs.lemmas.List.{get_or_default}
 use Rattle.std.proofs.lemmas.Option.{slice_get-get_or}
 use Rattle.cv_word.specs.Memory.{Memory}
-use Rattle.cv_word.specs.GateStep.{World, Releasers, GateEffect, Ending, goes, stops, faults, ends_core, exits, runs_out, arguments_of, is_short}
+use Rattle.cv_word.specs.GateStep.{World, Releasers, GateEffect, goes, stops, faults, ends_core, exits, runs_out, arguments_of, is_short}
 use Rattle.cv_word.specs.declared.registers.Registers.{Registers}
 use Rattle.cv_io.specs.Releasers.{Classes, held_of}
 use Rattle.trusted_stubs.specs.Answers.{Changed, GateStepsTo, changed}
 use Rattle.trusted_stubs.specs.Events.{Plays, MayFollow, Request}
 use Rattle.trusted_stubs.specs.declared.end.GateEnd.TheVariants as end
 use Rattle.trusted_stubs.proofs.EventLemmas.{plays_as, plays_nothing}
-use Rattle.x64_machine.specs.Run.{Core, Configuration, after_gate, outcome_of_ended}
+use Rattle.x64_machine.specs.Run.{Core, after_gate, outcome_of_ended}
 use Rattle.x64_machine.specs.Steps.{stepped, running}
 use Rattle.x64_machine.specs.Failures.{asked_by, unanswered}
 use Rattle.x64_machine.specs.declared.outcome.Outcome.{Outcome}

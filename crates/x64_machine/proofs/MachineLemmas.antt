@@ -1,5 +1,5 @@
 -- Machines that step and run while releasers answer.
-use Rattle.std.proofs.Common.{◌≡◌, ◌∙◌, sym, ap, subst, subst₂, ℕ, suc, ◌+◌, ◌-◌, ◌%◌, ◌<◌, ◌≤◌, Bool, true, false, List, [], ◌∷◌, ◌++◌, length, take, drop, get_or, Option, Some, None, refl, arith, cond, drop-cons, add-one}
+use Rattle.std.proofs.Common.{◌≡◌, ◌∙◌, sym, ap, subst, subst₂, ℕ, suc, ◌+◌, ◌-◌, ◌%◌, ◌<◌, ◌≤◌, Bool, true, false, List, [], ◌∷◌, ◌++◌, length, take, drop, get_or, Option, None, refl, arith, cond, drop-cons, add-one}
 use Rattle.std.proofs.lemmas.List.{drop_all}
 use Rattle.std.proofs.lemmas.Grind.{common_steps}
 use Rattle.std.specs.Prelude.{slice_get}
@@ -8,7 +8,7 @@ use Rattle.cv_word.specs.Memory.{Memory}
 use Rattle.cv_word.specs.GateStep.{World, Releasers}
 use Rattle.cv_io.specs.Releasers.{Classes}
 use Rattle.trusted_stubs.specs.Events.{Plays, Request}
-use Rattle.trusted_stubs.proofs.EventLemmas.{plays_as, plays_on}
+use Rattle.trusted_stubs.proofs.EventLemmas.{plays_on}
 use Rattle.x64_machine.specs.Run.{Core, State, Configuration, configuration, is_running, run, step, step_core}
 use Rattle.x64_machine.specs.Entries.{turns}
 use Rattle.x64_machine.specs.Endings.{progress_of}
@@ -18,7 +18,7 @@ use Rattle.x64_machine.specs.declared.outcome.Outcome.{Outcome}
 use Rattle.x64_machine.specs.declared.outcome.Outcome.TheVariants as outcome
 use Rattle.x64_machine.specs.declared.schedule.Progress.TheVariants as progress
 use Rattle.x64_machine.proofs.GateLemmas.{plays_none}
-use Rattle.x64_machine.proofs.Runs.{ended_not_running, run-ended, run_stopped, turns_next, turns_empty}
+use Rattle.x64_machine.proofs.Runs.{run-ended, run_stopped, turns_next, turns_empty}
 
 -- ---- a step
 

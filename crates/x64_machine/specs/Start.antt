@@ -74,10 +74,6 @@ start_releasers tapes = record {
   asked = λ class. [];
 }
 
--- no class has a releaser
-abbrev pub none : Releasers
-none = start_releasers []
-
 -- what a machine holds at the start: the public segment begins with the image's bytes, the private one has those of the secret
 abbrev pub start_state : Image → List ℕ → List ℕ → List ℕ → State
 start_state image public_input private_input private_segment = record {
