@@ -11,7 +11,7 @@ use Rattle.cv_io.specs.Releasers.{Classes}
 use Rattle.trusted_stubs.specs.Events.{Event, Request, IsKnownAfter}
 use Rattle.x64_machine.specs.declared.outcome.Outcome.{Outcome}
 use Rattle.x64_machine.specs.declared.outcome.Outcome.TheVariants as outcome
-use Rattle.x64_machine.specs.Failures.{asked_by, unanswered}
+use Rattle.x64_machine.specs.Following.{asked_by, unanswered}
 use Rattle.x64_machine.specs.Run.{Configuration, Core, run}
 use Rattle.x64_machine.specs.Start.{start, start_state, start_releasers}
 use Rattle.confllvm_top.specs.Endings.{HasEnded, Outside}

@@ -203,7 +203,7 @@ outside_of out err s x y = record { out = out; err = err; store = s; classes_bef
 does_before : (result : Status) (command : Command) (image : List ℕ) (out err : Stream) (a c : Option Files) (i j k : ℕ) (x y : Classes) → i ≤ j →
     Does result command image (outside_of out err (shelf_of a c j k) x y) → Does result command image (outside_of out err (shelf_of a c i k) x y)
 does_before result command image out err a c i j k x y low (inl none) =
-    inl (none.0, record { quiet = record { out = none.1.quiet.out; store = none.1.quiet.store }; tells = none.1.tells })
+    inl (none.0, record { quiet = record { out = none.1.quiet.out; store = none.1.quiet.store }; unasked = none.1.unasked; tells = none.1.tells })
 does_before result command image out err a c i j k x y low (inr (inl missing)) = inr (inl (
   missing.0,
   record {
@@ -240,7 +240,7 @@ pub misses : (fault : LoadFault) (result : Status) (name : List ℕ) (steps : �
     IsAccepted image → HasGotNothing out → c ≡ a → y ≡ x → IsLoadFault fault (IsInput files) (ToldAnd a (λ told. LacksInput told files)) (shelf_of a c i k) → LoadTold result fault err →
     Does result (Run name steps files) image (outside_of out err (shelf_of a c i k) x y)
 misses load.NoMemory result name steps files image out err a c i k x y accepted quiet same unasked fault told =
-    inl (told.0, record { quiet = record { out = quiet; store = same }; tells = told.1 })
+    inl (told.0, record { quiet = record { out = quiet; store = same }; unasked = unasked; tells = told.1 })
 misses (load.Store missing) result name steps files image out err a c i k x y accepted quiet same unasked fault (inl told) =
     inr (inl (
       told.0,
@@ -251,7 +251,7 @@ misses (load.Store missing) result name steps files image out err a c i k x y ac
       },
     ))
 misses (load.Store missing) result name steps files image out err a c i k x y accepted quiet same unasked fault (inr told) =
-    inl (told.0, record { quiet = record { out = quiet; store = same }; tells = told.1 })
+    inl (told.0, record { quiet = record { out = quiet; store = same }; unasked = unasked; tells = told.1 })
 
 -- ---- bytes that `run` refuses
 

@@ -1,5 +1,5 @@
 -- The run of a machine that stands at an image's start, and what tells it.
-use Rattle.std.proofs.Common.{◌≡◌, ◌∙◌, ℕ, suc, Bool, List, [], ◌∷◌, ◌++◌, length, Option, is_some, refl, sym, ap, subst}
+use Rattle.std.proofs.Common.{◌≡◌, ◌∙◌, ℕ, suc, Bool, List, [], ◌∷◌, length, Option, is_some, refl, sym, ap, subst, inl, inr}
 use Rattle.cv_word.specs.Words.{AreBytes}
 use Rattle.cv_word.specs.GateStep.{Releasers, Tape}
 use Rattle.cv_io.specs.Releasers.{Classes, held_of}
@@ -10,18 +10,20 @@ use Rattle.x64_machine.specs.declared.outcome.Outcome.{Outcome}
 use Rattle.x64_machine.specs.declared.outcome.Outcome.TheVariants as outcome
 use Rattle.x64_machine.specs.Run.{State, Configuration, configuration, run}
 use Rattle.x64_machine.specs.Start.{start_cores, start_state, start_releasers}
-use Rattle.x64_machine.specs.Failures.{HasRun, unanswered}
+use Rattle.x64_machine.specs.Following.{HasRun, unanswered}
 use Rattle.x64_machine.specs.Noninterference.{Noninterfering}
 use Rattle.command_line.specs.Commands.{RunFiles, Run}
 use Rattle.confllvm_top.specs.declared.status.Status.{Status}
 use Rattle.confllvm_top.specs.Answers.{Answers, EndsRun, IsAnswer, IsPlan, TellsRun}
-use Rattle.confllvm_top.specs.Inputs.{Saves}
 use Rattle.confllvm_top.specs.Loading.{Loaded}
-use Rattle.confllvm_top.specs.Plans.{Plan, Saving}
+use Rattle.conf_verify.specs.declared.rule.Rule.{Rule}
+use Rattle.confllvm_top.specs.declared.status.Status.TheVariants.{NoMemory, Refused, SinkFault, StoreFault}
+use Rattle.confllvm_top.specs.Streams.{Stream}
+use Rattle.confllvm_top.specs.Plans.{Plan, PlanEnds, Shelf}
 use Rattle.confllvm_top.specs.Ran.{HasRunWith}
 use Rattle.confllvm_top.specs.Released.{HasReleased, HasUsed, IsAsked, IsServed, RunsWith, tapes_from}
 use Rattle.confllvm_top.proofs.TapeLemmas.{begins_with, rest, rest_follows, tapes_are_bytes}
-use Rattle.confllvm_top.specs.Running.{Finding, RunsTo, finding_of, outcome_line, plan_of, saving, schedule_of, status_of, used_of}
+use Rattle.confllvm_top.specs.Running.{Finding, RunsTo, finding_of, plan_of, schedule_of, status_of, used_of}
 
 -- there is a core for each entry
 length-start_cores : (image : Image) (i : ℕ) (xs : List ℕ) → length (start_cores image i xs) ≡ length xs
@@ -71,12 +73,6 @@ ran_with bytes schedule public private_in steps files image private first last e
 
 -- ---- what tells it
 
-abbrev plan_by : List ℕ → List Saving → List ℕ → Plan
-plan_by out saves err = record { out = out; saves = saves; err = err }
-
-abbrev saves_by : Option (List ℕ) → List ℕ → Option (List ℕ) → List ℕ → Saves
-saves_by private_name private audit_name audit = record { private_name = private_name; private = private; audit_name = audit_name; audit = audit }
-
 ends_run : (name : List ℕ) (steps : ℕ) (files : RunFiles) (loaded : Loaded) (o : Outcome) → EndsRun (status_of (used_of files steps loaded) o) steps files loaded →
     Answers (status_of (used_of files steps loaded) o) (Run name steps files) loaded
 ends_run name steps files loaded outcome.Running h = h
@@ -120,13 +116,27 @@ run_served name steps files loaded status finding old new released runs used is 
       (asked_run name steps files loaded finding.outcome released.events released.failure (finding, runs, used));
 }
 
-same_plan : (a b : List ℕ) (xs ys : List Saving) (c d : List ℕ) → a ≡ b → xs ≡ ys → c ≡ d → plan_by a xs c ≡ plan_by b ys d
-same_plan a b xs ys c d e f g =
-    ap (λ (x : List ℕ). plan_by x xs c) e ∙ ap (λ (x : List Saving). plan_by b x c) f ∙ ap (λ (x : List ℕ). plan_by b ys x) g
+-- ---- how what a run left is told
 
-pub plan_is : (files : RunFiles) (used : ℕ) (finding : Finding) (out line : List ℕ) (s : Saves) → out ≡ finding.public_output →
-    s ≡ saves_by files.private_output finding.private_output files.audit finding.audit → line ≡ outcome_line used finding.outcome →
-    plan_by out (saving s.private_name s.private ++ saving s.audit_name s.audit) line ≡ plan_of files used finding
-plan_is files used finding out line s a b c =
-    same_plan out finding.public_output _ _ line (outcome_line used finding.outcome) a
-    (ap (λ (x : Saves). saving x.private_name x.private ++ saving x.audit_name x.audit) b) c
+abbrev Ends : Status → ℕ → RunFiles → Finding → Stream → Stream → Shelf → Type 0
+Ends result used files finding out err s = PlanEnds result (status_of used finding.outcome) (plan_of files used finding) out err s
+
+pub by_used : (result : Status) (n used : ℕ) (files : RunFiles) (finding : Finding) (out err : Stream) (s : Shelf) → n ≡ used → Ends result n files finding out err s → Ends result used files finding out err s
+by_used result n used files finding out err s same ends = subst (λ (k : ℕ). Ends result k files finding out err s) same ends
+
+other_status : (used : ℕ) (o : Outcome) (rule : Rule) (at : ℕ) → status_of used o ≡ Refused rule at → ⊥
+other_status used outcome.Running rule at e = cc
+other_status used (outcome.Exited status) rule at e = cc
+other_status used (outcome.Fault core place kind) rule at e = cc
+other_status used (outcome.Tape core place class) rule at e = cc
+
+apart : (a b : Status) (rule : Rule) (at : ℕ) → a ≡ b → a ≡ Refused rule at → (b ≡ Refused rule at → ⊥) → ⊥
+apart a b rule at e f g = g (sym e ∙ f)
+
+-- a run that is told isn't refused
+pub not_refused : (result : Status) (used : ℕ) (o : Outcome) (plan : Plan) (out err : Stream) (s : Shelf) (rule : Rule) (at : ℕ) → PlanEnds result (status_of used o) plan out err s →
+    result ≡ Refused rule at → ⊥
+not_refused result used o plan out err s rule at (inl told) e = apart result (status_of used o) rule at told.0 e (other_status used o rule at)
+not_refused result used o plan out err s rule at (inr (inl cut)) e = apart result SinkFault rule at cut.0 e (λ f. cc)
+not_refused result used o plan out err s rule at (inr (inr (inl unsaved))) e = apart result StoreFault rule at unsaved.0 e (λ f. cc)
+not_refused result used o plan out err s rule at (inr (inr (inr none))) e = apart result NoMemory rule at none.0 e (λ f. cc)

@@ -78,9 +78,10 @@ pub record HasNotLoaded (words : List (List ℕ)) (o : Outside) : Type 0 where
   pub said : IsCommand words command
   pub failed : HasFailedToLoad command o
 
--- memory was refused before the command was about to end
+-- memory was refused before the command was about to end, and no releaser was asked
 pub record HasNoMemory (o : Outside) : Type 0 where
   pub quiet : IsQuiet o
+  pub unasked : o.classes ≡ o.classes_before
   pub tells : MayHaveGot no_memory_line o.err
 
 -- ---- with the bytes of the command's file
@@ -126,7 +127,7 @@ pub record AnswersWith (status : Status) (command : Command) (loaded : Loaded) (
   pub released : HasReleased tapes o.classes_before o.classes
   pub answers : Answers status command (record loaded { tapes = tapes })
 
--- it answers so, whatever tapes the releasers told in the call
+-- it answers so with every list of tapes that fits what is known of the releasers before and after the call
 abbrev pub AnswersAlways : Status → Command → Loaded → Outside → Type 0
 AnswersAlways status command loaded o =
     (tapes : List (Option Tape)) → HasReleased tapes o.classes_before o.classes → Answers status command (record loaded { tapes = tapes })

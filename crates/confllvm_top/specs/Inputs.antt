@@ -3,7 +3,7 @@ use Rattle.std.specs.Prelude.{ℕ, List, [], Option}
 use Rattle.command_line.specs.Words.{text_of}
 use Rattle.cv_word.specs.GateStep.{Releasers, Tape}
 use Rattle.x64_machine.specs.Run.{State}
-use Rattle.x64_machine.specs.Failures.{unanswered}
+use Rattle.x64_machine.specs.Following.{unanswered}
 use Rattle.confllvm_top.specs.declared.loading.Inputs.{Inputs}
 use Rattle.confllvm_top.specs.Loading.{Loaded}
 use Rattle.confllvm_top.specs.Running.{Finding}

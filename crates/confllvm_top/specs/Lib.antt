@@ -7,7 +7,7 @@ pub use Rattle.conf_verify.specs.Listed
 pub use Rattle.x64_machine.specs.Run
 pub use Rattle.x64_machine.specs.Start
 pub use Rattle.x64_machine.specs.Entries
-pub use Rattle.x64_machine.specs.Failures
+pub use Rattle.x64_machine.specs.Following
 pub use Rattle.trusted_stubs.specs.Events
 pub use Rattle.cv_io.specs.Releasers
 pub use Rattle.x64_machine.specs.Noninterference

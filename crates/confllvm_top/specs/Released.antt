@@ -9,7 +9,7 @@ use Rattle.confllvm_top.specs.declared.status.Status.TheVariants.{Refused}
 use Rattle.confllvm_top.specs.Loading.{Loaded}
 use Rattle.confllvm_top.specs.Running.{Finding, RunsTo}
 
--- the tape of a class: all bytes that it told; it answers without limit, or where it is limited as many releases as it answered
+-- the tape of a class: all bytes that its releaser told; it is limited to the number of releases that it answered, or has no limit
 abbrev pub tape_of : Bool → List Event → ℕ → Tape
 tape_of limited events class = record {
   bytes = told_by class events;
@@ -38,12 +38,13 @@ pub record HasUsed (events : List Event) (failure : Option Request) (finding : F
   pub asked : (class : ℕ) → finding.releasers.asked class ≡ asked_of class events
   pub unanswered : finding.unanswered ≡ failure
 
--- some run of the loaded image found that
+-- the run of the loaded image found that, the one finding that it has; another command has no events and no failed request
 abbrev pub RunsWith : Loaded → Command → List Event → Option Request → Type 0
 RunsWith loaded (Run name steps files) events failure = (finding : Finding) × RunsTo loaded steps files finding × HasUsed events failure finding
 RunsWith loaded _ events failure = (events ≡ []) × (failure ≡ None)
 
--- What the releasers did where a command ended so: in a run, what its tapes and its audit tell; else nothing.
+-- What the releasers did where a command ended so: in a run, what its tapes and its audit tell; else, and where bytes are refused,
+-- nothing.
 abbrev pub IsAsked : Status → Command → Loaded → List Event → Option Request → Type 0
 IsAsked (Refused rule at) command loaded events failure = (events ≡ []) × (failure ≡ None)
 IsAsked status command loaded events failure = RunsWith loaded command events failure

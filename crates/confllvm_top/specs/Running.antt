@@ -11,7 +11,7 @@ use Rattle.x64_machine.specs.declared.schedule.Schedule.TheVariants.{RoundRobin}
 use Rattle.x64_machine.specs.Run.{Configuration, run}
 use Rattle.x64_machine.specs.Start.{Shared, Secret, start}
 use Rattle.x64_machine.specs.Entries.{entries}
-use Rattle.x64_machine.specs.Failures.{unanswered}
+use Rattle.x64_machine.specs.Following.{unanswered}
 use Rattle.confllvm_top.specs.declared.status.Status.{Status}
 use Rattle.confllvm_top.specs.declared.status.Status.TheVariants.{Done, Fault, Steps, TrustFault}
 use Rattle.confllvm_top.specs.Lines.{exit_line, fault_line, steps_line, trust_fault_line}

@@ -5,6 +5,7 @@ ghost use Rattle.std.specs.String.{string_bytes};
 ghost use Rattle.command_line.specs.Commands as said;
 ghost use Rattle.command_line.specs.Commands.{IsCommand, IsNoCommand};
 ghost use Rattle.command_line.specs.Words.{command_of};
+ghost use Rattle.conf_verify.specs.declared.rule.Rule.{Rule};
 ghost use Rattle.cv_io.specs.Releasers.{classes_by, held_of};
 ghost use Rattle.confllvm_top.specs.Endings.{AnswersAlways, AnswersWith, Does, HasEnded, HasFailedToEnd, HasFailedToSave, HasNoMemory, HasNotLoaded, HasRunOut, IsChecked, IsFault};
 ghost use Rattle.confllvm_top.specs.Lines.{usage_line};
@@ -42,7 +43,8 @@ use std::alloc::Global;
 /// fails the command ends: a failing put of these is `SinkFault`, and then nothing more is put.
 ///
 /// The releaser of a class of releases is `trusted[class]`. `run` asks it at each release of that class. Where it fails, the run ends
-/// with `TrustFault`. The list keeps its length, and each class the releaser that it has.
+/// with `TrustFault`. The list keeps its length, and a class has a releaser at the end exactly
+/// where it had one.
 ///
 /// The lines `usage fault`, `store fault NAME` and `no memory` go to `err`, whether or not that fails.
 pub fn confllvm<S: Store, O: Sink, E: Sink>(
@@ -59,7 +61,8 @@ pub fn confllvm<S: Store, O: Sink, E: Sink>(
     ensures told { is_told result ≡ true → HasEnded result (map string_bytes words.now) (outside S.contents S.faults O.held O.faults E.held E.faults store.old store.new out.old out.new err.old err.new (classes_by known trusted.old.items) (classes_by known trusted.new.items)) }
     // Files that are told are answered by what their bytes are and what the releasers tell, unless there is a fault or memory is refused.
     ensures answered { (command : said.Command) (loaded : Loaded) → TellsNamed (map string_bytes words.now) (S.contents store.old) command loaded → AnswersWith result command loaded (outside S.contents S.faults O.held O.faults E.held E.faults store.old store.new out.old out.new err.old err.new (classes_by known trusted.old.items) (classes_by known trusted.new.items)) ⊎ IsFault result (outside S.contents S.faults O.held O.faults E.held E.faults store.old store.new out.old out.new err.old err.new (classes_by known trusted.old.items) (classes_by known trusted.new.items)) }
-    // So files that are told get exactly the command's answer to them, unless there is a fault or memory is refused.
+    // A command that has one answer, whatever tapes fit what is known of the releasers before and after, gives that answer, unless there
+    // is a fault or memory is refused.
     ensures exact { (command : said.Command) (loaded : Loaded) (status : Status) → TellsNamed (map string_bytes words.now) (S.contents store.old) command loaded → AnswersAlways status command loaded (outside S.contents S.faults O.held O.faults E.held E.faults store.old store.new out.old out.new err.old err.new (classes_by known trusted.old.items) (classes_by known trusted.new.items)) → (result ≡ status) ⊎ IsFault result (outside S.contents S.faults O.held O.faults E.held E.faults store.old store.new out.old out.new err.old err.new (classes_by known trusted.old.items) (classes_by known trusted.new.items)) }
     // Usage exactly where the words are no command, unless memory is refused.
     ensures usage { result ≡ Status.Usage → IsNoCommand (map string_bytes words.now) }
@@ -80,6 +83,7 @@ pub fn confllvm<S: Store, O: Sink, E: Sink>(
     ensures held { held_of (classes_by known trusted.new.items) ≡ held_of (classes_by known trusted.old.items) }
     ensures unasked { (command : said.Command) → IsCommand (map string_bytes words.now) command → asks command ≡ false → trusted.new ≡ trusted.old }
     ensures trusted_usage { result ≡ Status.Usage → trusted.new ≡ trusted.old }
+    ensures trusted_refused { (rule : Rule) (at : ℕ) → result ≡ Status.Refused rule at → trusted.new ≡ trusted.old }
     // What never falls.
     ensures store_counted { S.faults store.old ≤ S.faults store.new }
     ensures out_counted { O.faults out.old ≤ O.faults out.new }
@@ -117,6 +121,7 @@ fn tell<S: Store, O: Sink, E: Sink>(
     ensures does { Does result (command_of command.now) bytes.now (outside S.contents S.faults O.held O.faults E.held E.faults store.old store.new out.old out.new err.old err.new (classes_by known trusted.old.items) (classes_by known trusted.new.items)) }
     ensures held { held_of (classes_by known trusted.new.items) ≡ held_of (classes_by known trusted.old.items) }
     ensures unasked { asks (command_of command.now) ≡ false → trusted.new ≡ trusted.old }
+    ensures trusted_refused { (rule : Rule) (at : ℕ) → result ≡ Status.Refused rule at → trusted.new ≡ trusted.old }
     ensures store_counted { S.faults store.old ≤ S.faults store.new }
     ensures out_counted { O.faults out.old ≤ O.faults out.new }
     ensures err_counted { E.faults err.old ≤ E.faults err.new }

@@ -1,4 +1,4 @@
-//! The commands of the product over any store and any sinks.
+//! The commands of the product over any store, any sinks and any releasers.
 //!
 //! [`confllvm`] reads the words of a command line, does what they say and answers a [`Status`]. Its
 //! contract is the promise of the product: `verify` is done only with bytes that are accepted and

@@ -1,26 +1,27 @@
 //! What `run` does with the bytes of a file.
 
-ghost use Rattle.std.specs.Prelude.{true, length, ◌≡◌, ◌≤◌, ℕ, List, [], IfOk, Option};
+ghost use Rattle.std.specs.Prelude.{true, length, ◌≡◌, ◌≤◌, ℕ, List, [], IfOk, OnErr, Option};
 ghost use Rattle.std.specs.String.{string_bytes};
 ghost use Rattle.conf_verify.specs.Verdict.{IsImage};
 ghost use Rattle.command_line.specs.Commands.{Run};
 ghost use Rattle.command_line.specs.Words.{files_of};
 ghost use Rattle.confllvm_top.specs.Endings.{Does};
-ghost use Rattle.confllvm_top.specs.Inputs.{loaded_with, saves_of};
+ghost use Rattle.confllvm_top.specs.Inputs.{finding_in, loaded_with, saves_of};
 ghost use Rattle.confllvm_top.specs.Lines.{refused_line};
 ghost use Rattle.confllvm_top.specs.Loading.{Loaded};
 ghost use Rattle.confllvm_top.specs.Loads.{LoadTold};
 ghost use Rattle.cv_io.specs.Releasers.{classes_by, held_of};
-ghost use Rattle.cv_word.specs.GateStep.{Tape};
+ghost use Rattle.conf_verify.specs.declared.rule.Rule.{Rule as Refusal};
+ghost use Rattle.cv_word.specs.GateStep.{Releasers, Tape};
 ghost use Rattle.cv_word.specs.Words.{AreBytes};
 ghost use Rattle.x64_machine.specs.Entries.{entries};
-ghost use Rattle.x64_machine.specs.Failures.{HasRun};
+ghost use Rattle.x64_machine.specs.Following.{HasRun};
 ghost use Rattle.x64_machine.specs.Run.{is_running};
 ghost use Rattle.x64_machine.specs.Start.{start_state};
 ghost use Rattle.confllvm_top.specs.Outsides.{outside};
 ghost use Rattle.confllvm_top.specs.Plans.{HasSaved, PlanEnds, Shelf, line_err, shelf};
 ghost use Rattle.confllvm_top.specs.Ran.{HasRunWith};
-ghost use Rattle.confllvm_top.specs.Running.{outcome_line, schedule_of, status_of, used_of};
+ghost use Rattle.confllvm_top.specs.Running.{outcome_line, plan_of, schedule_of, status_of, used_of};
 ghost use Rattle.confllvm_top.specs.Streams.{HasGotNothing, Stream, stream};
 
 use crate::lines;
@@ -50,6 +51,7 @@ pub(crate) fn tell_run<S: Store, O: Sink, E: Sink>(
 ) -> Status
     ensures does { (name : List ℕ) → Does result (Run name steps (files_of files.entry)) bytes.now (outside S.contents S.faults O.held O.faults E.held E.faults store.old store.new out.old out.new err.old err.new (classes_by known trusted.old.items) (classes_by known trusted.new.items)) }
     ensures held { held_of (classes_by known trusted.new.items) ≡ held_of (classes_by known trusted.old.items) }
+    ensures trusted_refused { (rule : Refusal) (at : ℕ) → result ≡ Status.Refused rule at → trusted.new ≡ trusted.old }
     ensures store_counted { S.faults store.old ≤ S.faults store.new }
     ensures out_counted { O.faults out.old ≤ O.faults out.new }
     ensures err_counted { E.faults err.old ≤ E.faults err.new }
@@ -60,15 +62,7 @@ pub(crate) fn tell_run<S: Store, O: Sink, E: Sink>(
             ni_laws::accepted_law();
             match load_inputs(alloc, files, store) {
                 Ok(inputs) => match run_image(alloc, &image, steps, files, &inputs, trusted) {
-                    Ok(ran) => put_run(
-                        alloc,
-                        &ran.told,
-                        ran.machine.public_out(),
-                        saves(files, &ran.machine),
-                        store,
-                        out,
-                        err,
-                    ),
+                    Ok(ran) => tell_ran(alloc, &ran, files, store, out, err),
                     Err(_error) => tell_no_memory(err),
                 },
                 Err(fault) => tell_load_fault(alloc, fault, err),
@@ -102,14 +96,42 @@ fn tell_refused<E: Sink>(alloc: Global, rule: Rule, at: u64, err: &mut E) -> Sta
     put_line(&Told { status, line }, err)
 }
 
-/// A machine that has run, and how it ended.
+/// A machine that has run, and how many entries its schedule had.
 #[derive(Drop)]
 struct Ran<'a> {
     machine: Machine<'a>,
-    told: Told,
+    used: u64,
 }
 
-/// Runs the image with these inputs, and asks the releasers.
+/// Puts and saves what a machine that has run leaves, and the line that tells how it ended.
+fn tell_ran<S: Store, O: Sink, E: Sink>(
+    alloc: Global,
+    ran: &Ran<'_>,
+    files: RunFiles<'_>,
+    store: &mut S,
+    out: &mut O,
+    err: &mut E,
+) -> Status
+    ensures ends { (r : Releasers) → PlanEnds result (status_of ran.now.used ran.now.machine.outcome) (plan_of (files_of files.entry) ran.now.used (finding_in ran.now.machine r)) (stream O.held O.faults out.old out.new) (stream E.held E.faults err.old err.new) (shelf S.contents S.faults store.old store.new) }
+    ensures store_counted { S.faults store.old ≤ S.faults store.new }
+    ensures out_counted { O.faults out.old ≤ O.faults out.new }
+    ensures err_counted { E.faults err.old ≤ E.faults err.new }
+{
+    let Ok(told) = told_of(alloc, ran.machine.outcome(), ran.used) else {
+        return tell_no_memory(err);
+    };
+    put_run(
+        alloc,
+        &told,
+        ran.machine.public_out(),
+        saves(files, &ran.machine),
+        store,
+        out,
+        err,
+    )
+}
+
+/// Runs the image with these inputs, and asks the releasers. Where memory is refused, nobody is asked.
 fn run_image<'a>(
     alloc: Global,
     image: &Verified<'a>,
@@ -119,17 +141,16 @@ fn run_image<'a>(
     trusted: &mut Vec<Option<Box<dyn Trusted>>>,
 ) -> Result<Ran<'a>, NoMemory>
     ensures runs { IfOk result (λ ran. (bytes : List ℕ) → IsImage bytes image.now.image → HasRunWith (loaded_with bytes inputs.now) steps (files_of files.entry) ran.machine (classes_by known trusted.old.items) (classes_by known trusted.new.items)) }
-    ensures status { IfOk result (λ ran. (bytes : List ℕ) (tapes : List (Option Tape)) → ran.told.status ≡ status_of (used_of (files_of files.entry) steps (loaded_with bytes inputs.now tapes)) ran.machine.outcome) }
-    ensures line { IfOk result (λ ran. (bytes : List ℕ) (tapes : List (Option Tape)) → string_bytes ran.told.line ≡ outcome_line (used_of (files_of files.entry) steps (loaded_with bytes inputs.now tapes)) ran.machine.outcome) }
+    ensures used { IfOk result (λ ran. (bytes : List ℕ) (tapes : List (Option Tape)) → ran.used ≡ used_of (files_of files.entry) steps (loaded_with bytes inputs.now tapes)) }
     ensures held { held_of (classes_by known trusted.new.items) ≡ held_of (classes_by known trusted.old.items) }
+    ensures unasked { OnErr result (trusted.new ≡ trusted.old) }
 {
     let private = image.parts().private;
     let mut machine = start_machine(alloc, image, &inputs.public, &inputs.private, private)?;
     let (schedule, used) = schedule_of(files, steps, &inputs.schedule);
-    let outcome = run_machine(&mut machine, schedule, trusted);
+    let _outcome = run_machine(&mut machine, schedule, trusted);
     are_bytes(machine.audit());
-    let told = told_of(alloc, outcome, used)?;
-    Ok(Ran { machine, told })
+    Ok(Ran { machine, used })
 }
 
 /// Runs a machine whose run hasn't ended, and asks the releasers.

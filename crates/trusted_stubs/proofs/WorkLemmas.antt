@@ -15,7 +15,7 @@ use Rattle.cv_word.specs.GateStep.{World, Releasers, Work, answers, ends, refusa
 use Rattle.trusted_stubs.specs.declared.end.GateEnd.{GateEnd}
 use Rattle.trusted_stubs.specs.declared.end.GateEnd.TheVariants.{Next}
 use Rattle.trusted_stubs.specs.declared.end.GateEnd.TheVariants as end
-use Rattle.trusted_stubs.specs.Answers.{WorkAnswers, GateStepsTo, IsServed, changed}
+use Rattle.trusted_stubs.specs.Answers.{WorkAnswers, GateStepsTo, IsUnrefused, changed}
 
 -- ---- refusals
 
@@ -30,7 +30,7 @@ not_not true e = refl
 not_not false e = absurd (true≢false e)
 
 parts_of_none : (size : ℕ) (gate : Gate) (a : Arguments) (w : World) (r : Releasers) → refusal size gate a w r ≡ None →
-    IsServed size gate a w × (lacks_releaser gate a r ≡ false)
+    IsUnrefused size gate a w × (lacks_releaser gate a r ≡ false)
 unfolding refusal
 parts_of_none size gate a w r e =
     let parts = no_fault (not (is_good_range size (reads gate a) && is_good_range size (writes gate a))) (passes_limit gate a w) (lacks_releaser gate a r) _ _ _ e in
@@ -47,15 +47,15 @@ module _ (size : ℕ) (gate : Gate) (a : Arguments) (w : World) (classes : Class
     asked = λ class. [];
   }
 
-  parts : IsServed size gate a w × (lacks_releaser gate a some_releasers ≡ false)
+  parts : IsUnrefused size gate a w × (lacks_releaser gate a some_releasers ≡ false)
   unfolding some_releasers
   parts = parts_of_none size gate a w some_releasers (served some_releasers refl)
 
-  pub served_so : IsServed size gate a w
+  pub served_so : IsUnrefused size gate a w
   served_so = parts.0
 
-  pub served_as : (known : Gate) → gate ≡ known → IsServed size known a w
-  served_as known is = subst (λ (g : Gate). IsServed size g a w) is served_so
+  pub served_as : (known : Gate) → gate ≡ known → IsUnrefused size known a w
+  served_as known is = subst (λ (g : Gate). IsUnrefused size g a w) is served_so
 
   pub held_so : gate ≡ Release → IsTrue (is_held (held_of classes) a.fourth)
   unfolding some_releasers
@@ -65,8 +65,8 @@ module _ (size : ℕ) (gate : Gate) (a : Arguments) (w : World) (classes : Class
       has
 
 -- what is so of a gate that was found to be this one
-pub is_served : (size : ℕ) (gate known : Gate) (a : Arguments) (w : World) → gate ≡ known → IsServed size gate a w → IsServed size known a w
-is_served size gate known a w is served = subst (λ (g : Gate). IsServed size g a w) is served
+pub is_served : (size : ℕ) (gate known : Gate) (a : Arguments) (w : World) → gate ≡ known → IsUnrefused size gate a w → IsUnrefused size known a w
+is_served size gate known a w is served = subst (λ (g : Gate). IsUnrefused size g a w) is served
 
 -- what passes no limit has room
 pub has_room : (most total : ℕ) → nat_lt most total ≡ false → total ≤ most

@@ -12,7 +12,7 @@ use Rattle.trusted_stubs.specs.declared.end.GateEnd.{GateEnd}
 use Rattle.trusted_stubs.specs.declared.end.GateEnd.TheVariants.{Next, CoreEnd, Exit, Fault, Tape}
 
 -- a gate that doesn't refuse has good ranges and passes no limit
-pub record IsServed (size : ℕ) (gate : Gate) (a : Arguments) (w : World) : Type 0 where
+pub record IsUnrefused (size : ℕ) (gate : Gate) (a : Arguments) (w : World) : Type 0 where
   pub reads_good : is_good_range size (reads gate a) ≡ true
   pub writes_good : is_good_range size (writes gate a) ≡ true
   pub within : passes_limit gate a w ≡ false

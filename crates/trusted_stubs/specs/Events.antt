@@ -1,8 +1,8 @@
 -- What releasers were asked and answered during some steps, and how the model's tapes follow from it.
 --
--- The model's releasers answer from tapes, finished lists of bytes. Real ones answer as they like. So a run is told by its
--- events, the releases that were answered, in order. Whatever the tapes answer later, the model's run begins with the answers
--- put back before that, and ends with them played.
+-- The model's releasers answer from tapes, finished lists of bytes. Real ones answer as they like. So a run is described by its
+-- events: the releases that were answered, in order. Take any rest of the tapes. The model's run starts from the tapes with the
+-- events' answers before that rest (`put_back`), and ends with the rest alone, having asked the events' sources (`played`).
 use Rattle.std.specs.Prelude.{◌≡◌, ℕ, ◌+◌, ◌==◌, true, false, List, [], ◌∷◌, ◌++◌, length, filter, flat_map, Option, Some, None, get_or, slice_get, slice_set}
 use Rattle.std.specs.Option.{option_map}
 use Rattle.cv_io.specs.Releasers.{Known, HasFailed, Classes, held_of, is_held}
@@ -14,7 +14,7 @@ pub record Event : Type 0 where
   pub source : List ℕ
   pub told : List ℕ
 
--- those of a class; all bytes that it was asked with, and all that it told
+-- the events of a class; the source bytes of these, joined; the bytes told, joined
 abbrev pub of_class : ℕ → List Event → List Event
 of_class class events = filter (λ e. e.class == class) events
 
@@ -68,7 +68,7 @@ abbrev pub known_after : List Event → Classes → Classes
 known_after [] classes = classes
 known_after (e ∷ events) classes = known_after events (after_event e classes)
 
--- a request that a releaser did not answer: its class, and its number of bytes
+-- a request at which a releaser failed: its class, and its number of bytes
 pub record Request : Type 0 where
   pub class : ℕ
   pub count : ℕ
@@ -95,10 +95,10 @@ abbrev pub IsKnownAfter : Option Request → List Event → Classes → Classes 
 IsKnownAfter None events old new = new ≡ known_after events old
 IsKnownAfter (Some request) events old new = FailsAt request (known_after events old) new
 
--- Some steps during which the releasers of all classes went from old to new and the audit from the first bytes to the second:
--- whatever follows on the tapes, the steps of the model go from the releasers with the answers put back to those with them
--- played. The audit has grown by the answers, and only classes that have a releaser answer. They end with this request, if any,
--- unanswered.
+-- `old` and `new` are what is known of the real releasers before and after some steps, and `Goes` relates the model's releasers before
+-- and after them. Some events account for it: for any rest of the tapes that may follow, the model goes from the answers put back to
+-- the answers played; the audit grew by the events; only classes that have a releaser answered; and what is known grew by the events,
+-- and by the failed request if there is one.
 pub record Plays (failure : Option Request) (old new : Classes) (audit audit' : List ℕ) (Goes : Releasers → Releasers → Type 0) : Type 0 where
   pub events : List Event
   pub goes : (later : Releasers) → later.held ≡ held_of old → MayFollow failure later → Goes (put_back events later) (played events later)

@@ -4,7 +4,7 @@ ghost use Rattle.std.specs.Prelude.{◌≡◌, ◌≢◌, ◌%◌, ◌<◌, ◌^
 ghost use Rattle.std.specs.Int.{w32, cast_signed};
 ghost use Rattle.cv_io.specs.Releasers.{classes_by, held_of};
 ghost use Rattle.cv_word.specs.GateStep.{Releasers, after_work, arguments_of, gate_step, read_from, reads, refusal, returned, stands_in_code, work, writes};
-ghost use Rattle.trusted_stubs.specs.Answers.{GateStepsTo, IsServed, changed, failure_of, from_place, request_of};
+ghost use Rattle.trusted_stubs.specs.Answers.{GateStepsTo, IsUnrefused, changed, failure_of, from_place, request_of};
 ghost use Rattle.trusted_stubs.specs.Events.{Plays};
 
 use crate::end::GateEnd;
@@ -148,7 +148,7 @@ fn do_other(
     world: &mut World<'_>,
 ) -> GateEnd
     requires other { gate ≢ Gate.Release }
-    requires served { IsServed segs.old.size gate a world.old }
+    requires served { IsUnrefused segs.old.size gate a world.old }
     ensures { (r : Releasers) → GateStepsTo (after_work (work gate a (read_from segs.old (reads gate a)) world.old r) next (writes gate a) regs.old segs.old) result (changed regs.old segs.old world.old r) (changed regs.new segs.new world.new r) }
 {
     match gate {

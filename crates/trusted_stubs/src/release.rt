@@ -5,7 +5,7 @@ ghost use Rattle.cv_io.specs.Releasers.{Asks, classes_by, held_of, is_held};
 ghost use Rattle.cv_word.specs.Memory.{is_good, range_read, range_written};
 ghost use Rattle.cv_word.specs.declared.gates.Gate.TheVariants as gate;
 ghost use Rattle.cv_word.specs.GateStep.{audit_entry, most_output, private_range, public_range, read_from, reads, work};
-ghost use Rattle.trusted_stubs.specs.Answers.{IsServed, ReleaseAnswers, failed_request};
+ghost use Rattle.trusted_stubs.specs.Answers.{IsUnrefused, ReleaseAnswers, failed_request};
 ghost use Rattle.trusted_stubs.specs.Events.{Plays};
 
 use crate::output::Output;
@@ -23,7 +23,7 @@ pub(crate) fn release(
     world: &mut World<'_>,
     trusted: &mut Vec<Option<Box<dyn Trusted>>>,
 ) -> Result<u64, TrustFault>
-    requires served { IsServed segs.old.size gate.Release a world.old }
+    requires served { IsUnrefused segs.old.size gate.Release a world.old }
     requires held { IsTrue (is_held (held_of (classes_by known trusted.old.items)) a.fourth) }
     ensures { Plays (failed_request result a) (classes_by known trusted.old.items) (classes_by known trusted.new.items) world.old.visible.audit world.new.visible.audit (λ before after. ReleaseAnswers (work gate.Release a (read_from segs.old (reads gate.Release a)) world.old before) result a segs.old segs.new world.old world.new before after) }
 {

@@ -14,7 +14,7 @@ use Rattle.trusted_stubs.specs.declared.end.GateEnd.TheVariants as end
 use Rattle.trusted_stubs.proofs.EventLemmas.{plays_as, plays_nothing}
 use Rattle.x64_machine.specs.Run.{Core, after_gate, outcome_of_ended}
 use Rattle.x64_machine.specs.Steps.{stepped, running}
-use Rattle.x64_machine.specs.Failures.{asked_by, unanswered}
+use Rattle.x64_machine.specs.Following.{asked_by, unanswered}
 use Rattle.x64_machine.specs.declared.outcome.Outcome.{Outcome}
 use Rattle.x64_machine.specs.declared.outcome.Outcome.TheVariants as outcome
 use Rattle.x64_machine.proofs.StepLemmas.{with_registers, written_back}

@@ -13,7 +13,7 @@ use Rattle.x64_machine.specs.Run.{Core, State, Configuration, configuration, is_
 use Rattle.x64_machine.specs.Entries.{turns}
 use Rattle.x64_machine.specs.Endings.{progress_of}
 use Rattle.x64_machine.specs.Steps.{stepped, running}
-use Rattle.x64_machine.specs.Failures.{HasRun, failure_between, unanswered}
+use Rattle.x64_machine.specs.Following.{HasRun, failure_between, unanswered}
 use Rattle.x64_machine.specs.declared.outcome.Outcome.{Outcome}
 use Rattle.x64_machine.specs.declared.outcome.Outcome.TheVariants as outcome
 use Rattle.x64_machine.specs.declared.schedule.Progress.TheVariants as progress

@@ -31,5 +31,5 @@ pub mod Start
 pub mod Entries
 pub mod Fields
 pub mod Endings
-pub mod Failures
+pub mod Following
 pub mod Noninterference

@@ -6,7 +6,7 @@ ghost use Rattle.x64_machine.specs.Run.{is_running};
 ghost use Rattle.x64_machine.specs.Start.{start_state};
 ghost use Rattle.x64_machine.specs.Entries.{entries, turns};
 ghost use Rattle.x64_machine.specs.Endings.{progress_of};
-ghost use Rattle.x64_machine.specs.Failures.{HasRun};
+ghost use Rattle.x64_machine.specs.Following.{HasRun};
 
 use crate::cores::{Core, first_cores};
 use crate::memory::{first_segments, first_world};

@@ -7,7 +7,7 @@ ghost use Rattle.cv_word.specs.GateStep.{Releasers, World as Gates, gate_step};
 ghost use Rattle.trusted_stubs.specs.Events.{Plays};
 ghost use Rattle.x64_alu.specs.CoreStep.{core_step};
 ghost use Rattle.x64_machine.specs.Run.{Core as Said, after_gate, after_step, outcome_of_ended, step_core};
-ghost use Rattle.x64_machine.specs.Failures.{unanswered};
+ghost use Rattle.x64_machine.specs.Following.{unanswered};
 ghost use Rattle.x64_machine.specs.Steps.{running, stepped};
 
 use crate::cores::Core;

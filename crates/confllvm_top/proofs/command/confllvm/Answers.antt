@@ -77,6 +77,7 @@ returns-in-Ok-load-clause-ran_out g c =
 pub returns-in-Err-NoMemory-load-clause-ran_out : goal.returns-in-Err-NoMemory-load-clause-ran_out
 returns-in-Err-NoMemory-load-clause-ran_out g c = λ none. inl (record {
   quiet = record { out = refl; store = c.load.ensures.unchanged };
+  unasked = refl;
   tells = c.tell_no_memory-in-Err-NoMemory-load.ensures.line;
 })
 
@@ -100,6 +101,7 @@ returns-in-Err-Missing-clause-unsaved g c = λ fault. inl (record {
 pub returns-in-Err-Missing-clause-ran_out : goal.returns-in-Err-Missing-clause-ran_out
 returns-in-Err-Missing-clause-ran_out g c = λ none. inl (record {
   quiet = record { out = refl; store = c.load.ensures.unchanged };
+  unasked = refl;
   tells = c.tell_store_fault.ensures.no_memory none;
 })
 
@@ -119,5 +121,6 @@ returns-in-Err-Failed-clause-unsaved g c = λ fault. inl (record {
 pub returns-in-Err-Failed-clause-ran_out : goal.returns-in-Err-Failed-clause-ran_out
 returns-in-Err-Failed-clause-ran_out g c = λ none. inl (record {
   quiet = record { out = refl; store = c.load.ensures.unchanged };
+  unasked = refl;
   tells = c.tell_store_fault-in-Err-Failed.ensures.no_memory none;
 })

@@ -1,30 +1,38 @@
-use Rattle.std.proofs.Common.{arith, refl, inr}
+use Rattle.std.proofs.Common.{arith, refl, inr, []}
+use Rattle.x64_machine.proofs.GateLemmas.{no_more}
+use Rattle.confllvm_top.specs.Running.{plan_of, status_of, used_of}
 use Rattle.command_line.specs.Words.{files_of}
 use Rattle.confllvm_top.specs.Inputs.{finding_in, loaded_with}
 use Rattle.confllvm_top.proofs.PlanLemmas.{misses, plan_since, refused_run}
-use Rattle.confllvm_top.proofs.RunLemmas.{plan_is, run_answer, run_served}
+use Rattle.confllvm_top.proofs.RunLemmas.{by_used, not_refused, run_answer, run_served}
 use Rattle.confllvm_top.proofs.running.tell_run.Goals as goal
 
 pub returns-in-Ok-run_image-clause-does : goal.returns-in-Ok-run_image-clause-does
 returns-in-Ok-run_image-clause-does g c = λ name.
     let ran = c.in-Ok-run_image.ensures.runs c.args.bytes.now c.in-Ok.ensures.image in
+    let loaded = loaded_with c.args.bytes.now c.in-Ok-load_inputs.inputs ran.tapes in
+    let files = files_of c.args.files in
+    let finding = finding_in c.in-Ok-run_image.ran.machine ran.releasers in
+    let used = used_of files c.args.steps loaded in
     inr (inr (record {
-      loaded = loaded_with c.args.bytes.now c.in-Ok-load_inputs.inputs ran.tapes;
+      loaded = loaded;
       image_is = refl;
       inputs = λ accepted. c.in-Ok-load_inputs.ensures.inputs c.args.bytes.now ran.tapes;
-      status = c.in-Ok-run_image.ran.told.status;
-      plan = _;
-      served = run_served name c.args.steps (files_of c.args.files) (loaded_with c.args.bytes.now c.in-Ok-load_inputs.inputs ran.tapes) c.in-Ok-run_image.ran.told.status
-          (finding_in c.in-Ok-run_image.ran.machine ran.releasers) _ _ ran.released ran.runs ran.used (c.in-Ok-run_image.ensures.status c.args.bytes.now ran.tapes);
-      answer = run_answer name c.args.steps (files_of c.args.files) (loaded_with c.args.bytes.now c.in-Ok-load_inputs.inputs ran.tapes) c.in-Ok-run_image.ran.told.status _
-          (finding_in c.in-Ok-run_image.ran.machine ran.releasers) c.in-Ok.ensures.accepted (c.accepted_law.ensures _ (λ i. omega (arith, c.type_inv.bytes i)) c.in-Ok.ensures.accepted)
-          ran.runs (c.in-Ok-run_image.ensures.status c.args.bytes.now ran.tapes)
-          (plan_is (files_of c.args.files) _ (finding_in c.in-Ok-run_image.ran.machine ran.releasers) _ _ _ c.public_out.ensures c.saves.ensures (c.in-Ok-run_image.ensures.line c.args.bytes.now ran.tapes));
-      ends = plan_since c.put_run.result c.in-Ok-run_image.ran.told.status _ _ _
-          (g.S.Store.contents c.args.store.now) (g.S.Store.contents c.load_inputs.new.store) (g.S.Store.contents c.put_run.new.store)
-          (g.S.Store.faults c.args.store.now) (g.S.Store.faults c.load_inputs.new.store) (g.S.Store.faults c.put_run.new.store)
-          c.load_inputs.ensures.unchanged c.load_inputs.ensures.counted c.put_run.ensures.ends;
+      status = status_of used finding.outcome;
+      plan = plan_of files used finding;
+      served = run_served name c.args.steps files loaded (status_of used finding.outcome) finding _ _ ran.released ran.runs ran.used refl;
+      answer = run_answer name c.args.steps files loaded (status_of used finding.outcome) (plan_of files used finding) finding c.in-Ok.ensures.accepted
+          (c.accepted_law.ensures _ (λ i. omega (arith, c.type_inv.bytes i)) c.in-Ok.ensures.accepted) ran.runs refl refl;
+      ends = plan_since c.tell_ran.result (status_of used finding.outcome) (plan_of files used finding) _ _
+          (g.S.Store.contents c.args.store.now) (g.S.Store.contents c.load_inputs.new.store) (g.S.Store.contents c.tell_ran.new.store)
+          (g.S.Store.faults c.args.store.now) (g.S.Store.faults c.load_inputs.new.store) (g.S.Store.faults c.tell_ran.new.store)
+          c.load_inputs.ensures.unchanged c.load_inputs.ensures.counted
+          (by_used c.tell_ran.result c.in-Ok-run_image.ran.used used files finding _ _ _ (c.in-Ok-run_image.ensures.used c.args.bytes.now ran.tapes) (c.tell_ran.ensures.ends ran.releasers));
     }))
+
+pub returns-in-Ok-run_image-clause-trusted_refused : goal.returns-in-Ok-run_image-clause-trusted_refused
+returns-in-Ok-run_image-clause-trusted_refused g c = λ rule at is.
+    absurd (not_refused c.tell_ran.result c.in-Ok-run_image.ran.used c.in-Ok-run_image.ran.machine.outcome _ _ _ _ rule at (c.tell_ran.ensures.ends (no_more [])) is)
 
 pub returns-in-Ok-clause-does : goal.returns-in-Ok-clause-does
 returns-in-Ok-clause-does g c = λ name.

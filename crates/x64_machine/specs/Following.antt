@@ -1,4 +1,4 @@
--- How a machine follows the model's run while real releasers answer, and the request with which a run ends that none answered.
+-- How a machine follows the model's run while real releasers answer, and the failed request that ended a run.
 use Rattle.std.specs.Prelude.{◌≡◌, ℕ, List, Option, Some, None, slice_get, if◌then◌else◌}
 use Rattle.cv_io.specs.Releasers.{Classes}
 use Rattle.cv_word.specs.GateStep.{arguments_of}
@@ -12,13 +12,13 @@ abbrev pub asked_by : Option Core → ℕ
 asked_by None = 0
 asked_by (Some core) = (arguments_of core.registers).third
 
--- The request that let a run end, if one did. The step that failed changed nothing but the outcome, so the core still has in rdx
--- what it asked for.
+-- The failed request that ended a run, if one did. The failing step changed nothing but the outcome, so the core's rdx still has the
+-- number of bytes.
 abbrev pub unanswered : Outcome → List Core → Option Request
 unanswered (outcome.Tape core at class) cores = Some (record { class = class; count = asked_by (slice_get cores core) })
 unanswered _ cores = None
 
--- the request that let a run end between two states, if one did: none where it had ended before
+-- the failed request that ended a run between two states, if one did: none where it had ended before
 abbrev pub failure_between : State → State → Option Request
 failure_between old new = if is_running old.outcome then unanswered new.outcome new.cores else None
 
