@@ -12,3 +12,6 @@ pub mod TypeLemmas
 pub mod Examples
 pub mod TypeNameLemmas
 pub mod DeclaratorLemmas
+pub mod OperatorLemmas
+pub mod Chains
+pub mod LevelLemmas

@@ -6,7 +6,9 @@
 
 mod declarators;
 mod errors;
+mod expressions;
 mod grammar;
+mod operators;
 mod spot;
 mod type_names;
 mod types;

@@ -1,0 +1,40 @@
+-- What the parser's functions for expressions say of the descent. No public contract cites it.
+use Rattle.std.specs.Prelude.{◌≡◌, ◌+◌, ◌≤◌, List, [], ◌∷◌, length}
+use Rattle.c_parser.specs.declared.words.Word.{Word}
+use Rattle.c_parser.specs.declared.spot.Spot.{Spot}
+use Rattle.c_parser.specs.declared.spot.TheConstants.{NESTING}
+use Rattle.c_parser.specs.declared.errors.ParseError.{ParseError}
+use Rattle.c_parser.specs.Steps.{Value}
+use Rattle.c_parser.specs.Grammar.{Symbol}
+use Rattle.c_parser.specs.Paths.{Path, Leads, Breaks}
+
+-- a spot in which a part of an expression may begin
+pub record IsShallow (spot : Spot) : Type 0 where
+  pub depth : spot.depth ≤ NESTING + 4
+  pub ended : spot.ended ≤ NESTING + 1
+  pub outside : spot.stars ≡ 0
+
+-- from a spot to one behind it, outside of the same parts
+pub record Moves (words : List Word) (from to : Spot) : Type 0 where
+  pub depth : to.depth ≡ from.depth
+  pub ended : to.ended ≤ NESTING + 1
+  pub stars : to.stars ≡ from.stars
+  pub on : from.at ≤ to.at
+  pub within : to.at ≤ length words
+
+-- these symbols are read, and build this
+pub record Reads (words : List Word) (from : Spot) (all : List Symbol) (to : Spot) (value : Value) : Type 0 where
+  pub leads : Leads NESTING words from all to (value ∷ [])
+  pub moves : Moves words from to
+
+-- Where a part is built and symbols come that take it up: these are read, and the part becomes another. The
+-- symbols are told by what comes behind them.
+pub record Turns (words : List Word) (from : Spot) (front : List Symbol → List Symbol) (old : Value) (to : Spot) (back : List Symbol → List Symbol) (new : Value) : Type 0 where
+  pub turns : (start : Spot) (all left : List Symbol) (values : List Value)
+      → Path NESTING words start all from (front left) (old ∷ values) → Path NESTING words start all to (back left) (new ∷ values)
+  pub moves : Moves words from to
+
+-- and the descent stops there
+pub record Halts (words : List Word) (from : Spot) (front : List Symbol → List Symbol) (old : Value) (e : ParseError) : Type 0 where
+  pub halts : (start : Spot) (all left : List Symbol) (values : List Value)
+      → Path NESTING words start all from (front left) (old ∷ values) → Breaks NESTING words start all e
