@@ -6,12 +6,16 @@ use Rattle.c_parser.specs.declared.spot.Spot.{Spot}
 use Rattle.c_parser.specs.declared.spot.TheConstants.{NESTING}
 use Rattle.c_parser.specs.declared.errors.ParseError.{ParseError}
 use Rattle.c_parser.specs.declared.errors.ParseError.TheVariants.{NoMemory}
-use Rattle.c_parser.specs.Steps.{Value, Step, build}
-use Rattle.c_parser.specs.Grammar.{Form, Symbol, M, B, N, In, Out, Ends}
+use Rattle.c_parser.specs.Steps.{Value, Step, BlockItems, build}
+use Rattle.c_parser.specs.Grammar.{Form, Symbol, M, B, N, In, Out, Ends, EndWhole, Unless}
+use Rattle.c_parser.specs.declared.words.Terminal.{Terminal}
+use Rattle.c_parser.specs.Reading.{BeginWith}
+use Rattle.c_ast.specs.declared.program.BlockItem.{BlockItem}
+use Rattle.c_parser.specs.Grammar as form
 use Rattle.c_parser.specs.Ways.{ways, way_at, way_number}
 use Rattle.c_parser.specs.Paths.{Path, Leads, Breaks, Parses}
-use Rattle.c_parser.specs.Parts.{Moves, Halts, Turns}
-use Rattle.c_parser.proofs.PathLemmas.{begin_path, rule_path, pair_path, breaks, build_path, mark_path, err_out}
+use Rattle.c_parser.specs.Parts.{Moves, Halts, Turns, Sticks}
+use Rattle.c_parser.proofs.PathLemmas.{begin_path, rule_path, pair_path, breaks, build_path, mark_path, unless_path, err_out}
 
 abbrev pub deeper : Spot → Spot
 deeper spot = record spot { depth = spot.depth + 1 }
@@ -68,6 +72,14 @@ pub halts_memory : {A : Type 0} (words : List Word) (from : Spot) (front : List 
     → IfErr r (Halts words from front old)
 halts_memory {A} words from front old r e h is = err_out (Halts words from front old) r e h (subst (Halts words from front old) (sym is) (no_memory_halts words from front old))
 
+pub exits_memory : {A : Type 0} (words : List Word) (from : Spot) (all : List Symbol) (r : Result A ParseError) (e : ParseError) → IsErrAnd r (λ y. y ≡ e) → e ≡ NoMemory → IfErr r (Breaks NESTING words from all)
+exits_memory {A} words from all r e h is = err_out (Breaks NESTING words from all) r e h (subst (Breaks NESTING words from all) (sym is) tt)
+
+pub sticks_so : {A : Type 0} (words : List Word) (from : Spot) (r : Result A ParseError) (e : ParseError) → IsErrAnd r (λ y. y ≡ e)
+    → ((start : Spot) (all left : List Symbol) (values : List Value) (items : List BlockItem) → Path NESTING words start all from (N form.BlockItems ∷ left) (BlockItems items ∷ values) → Breaks NESTING words start all e)
+    → IfErr r (Sticks words from)
+sticks_so {A} words from r e h q = err_out (Sticks words from) r e h (record { sticks = q })
+
 -- by a way of a form
 pub by_rule : {words : List Word} {from to : Spot} {all left : List Symbol} {new : List Value} (f : Form) (i : ℕ) → way_number f (drop to.at words) ≡ i → i < length (ways f)
     → Path NESTING words from all to (N f ∷ left) new → Path NESTING words from all to (way_at ways f i ++ left) new
@@ -75,6 +87,14 @@ by_rule {words} {from} {to} {all} {left} {new} f i is below p = rule_path NESTIN
 
 pub starts : (words : List Word) (from : Spot) (all : List Symbol) → Path NESTING words from all from all []
 starts words from all = begin_path NESTING words from all
+
+pub whole_ends : {words : List Word} {from to : Spot} {all left : List Symbol} {new : List Value}
+    → Path NESTING words from all to (M EndWhole ∷ left) new → Path NESTING words from all (record to { ended = 0 }) left new
+whole_ends {words} {from} {to} {all} {left} {new} p = mark_path NESTING words from all to EndWhole left new (record to { ended = 0 }) refl (λ vs. refl) p
+
+pub guarded : {words : List Word} {from to : Spot} {all left : List Symbol} {new : List Value} {ts : List Terminal} → ¬ BeginWith ts (drop to.at words)
+    → Path NESTING words from all to (Unless ts ∷ left) new → Path NESTING words from all to left new
+guarded {words} {from} {to} {all} {left} {new} {ts} guard p = unless_path NESTING words from all to ts left new guard p
 
 -- ---- moves
 
@@ -101,6 +121,9 @@ moved_then m n = record { depth = n.depth ∙ m.depth; ended = n.ended; stars = 
 
 pub moved_counted : {words : List Word} {from to : Spot} → to.ended ≤ NESTING → Moves words from to → Moves words from (record to { ended = to.ended + 1 })
 moved_counted low m = record { depth = m.depth; ended = omega (arith, low); stars = m.stars; on = m.on; within = m.within }
+
+pub moved_whole : {words : List Word} {from to : Spot} → Moves words from to → Moves words from (record to { ended = 0 })
+moved_whole m = record { depth = m.depth; ended = omega arith; stars = m.stars; on = m.on; within = m.within }
 
 pub moved_inside : {words : List Word} {from to : Spot} → Moves words (deeper from) to → Moves words from (record to { depth = from.depth })
 moved_inside m = record { depth = refl; ended = m.ended; stars = m.stars; on = m.on; within = m.within }

@@ -15,3 +15,5 @@ pub mod DeclaratorLemmas
 pub mod OperatorLemmas
 pub mod Chains
 pub mod LevelLemmas
+pub mod ObjectLemmas
+pub mod StatementLemmas

@@ -1,14 +1,16 @@
 -- The levels of operators by number, the tightest first, for who reads a word at a time. No public contract cites it.
-use Rattle.std.specs.Prelude.{◌≡◌, ℕ, zero, suc, ◌-◌, ◌<◌, ◌≤◌, Bool, true, false, List, [], ◌∷◌, ◌⊎◌, Option, Some, None, is_none}
+use Rattle.std.specs.Prelude.{◌≡◌, ℕ, zero, suc, ◌-◌, ◌<◌, ◌≤◌, Bool, true, false, ◌||◌, List, [], ◌∷◌, ◌⊎◌, Option, Some, None, is_none}
 use Rattle.c_ast.specs.declared.program.InfixOp.{InfixOp}
 use Rattle.c_ast.specs.declared.program.InfixOp.TheVariants as infix_op
 use Rattle.c_ast.specs.declared.program.PrefixOp.{PrefixOp}
 use Rattle.c_ast.specs.declared.program.PrefixOp.TheVariants.{Negate, Complement, IsZero, Follow, Address}
 use Rattle.c_parser.specs.declared.words.Word.{Word}
 use Rattle.c_parser.specs.declared.words.Terminal.{Terminal}
-use Rattle.c_parser.specs.declared.words.Terminal.TheVariants.{Plus, Minus, Star, Slash, Percent, Ampersand, Bar, Caret, Tilde, Exclamation, Less, Greater, ShiftLeft, ShiftRight, LessEqual, GreaterEqual, EqualEqual, NotEqual, Both, Either, OpenBracket, Open, Dot, Arrow}
+use Rattle.c_parser.specs.declared.words.Terminal.TheVariants.{Plus, Minus, Star, Slash, Percent, Ampersand, Bar, Caret, Tilde, Exclamation, Less, Greater, ShiftLeft, ShiftRight, LessEqual, GreaterEqual, EqualEqual, NotEqual, Both, Either, OpenBracket, Open, Dot, Arrow, Name, Number, Character, String, Sizeof, Semicolon}
 use Rattle.c_parser.specs.declared.operators.Operator.{Operator}
 use Rattle.c_parser.specs.Paths.{next_is}
+use Rattle.c_parser.specs.Ways.{can_begin}
+use Rattle.c_parser.specs.Grammar as form
 use Rattle.c_parser.specs.Grammar.{Level, EitherLevel, BothLevel, OrLevel, XorLevel, AndLevel, EqualLevel, OrderLevel, ShiftLevel, SumLevel, ProductLevel, Operands, Symbol, N}
 
 -- the level of an operator's sign, and 10 where it is none
@@ -116,3 +118,27 @@ is_suffix t = false
 abbrev pub begins_suffix : List Word → Bool
 begins_suffix [] = false
 begins_suffix (w ∷ words) = is_suffix w.terminal
+
+-- an expression or `;` can begin with this terminal
+abbrev pub is_evaluation : Terminal → Bool
+is_evaluation Name = true
+is_evaluation Number = true
+is_evaluation Character = true
+is_evaluation String = true
+is_evaluation Sizeof = true
+is_evaluation Minus = true
+is_evaluation Star = true
+is_evaluation Ampersand = true
+is_evaluation Tilde = true
+is_evaluation Exclamation = true
+is_evaluation Open = true
+is_evaluation Semicolon = true
+is_evaluation t = false
+
+abbrev pub begins_evaluation : List Word → Bool
+begins_evaluation [] = false
+begins_evaluation (w ∷ words) = is_evaluation w.terminal
+
+-- a declaration or a statement is next
+abbrev pub begins_item : List Word → Bool
+begins_item words = can_begin form.TypeName words || can_begin form.Statement words

@@ -1,11 +1,13 @@
 -- What the parser's functions for expressions say of the descent. No public contract cites it.
-use Rattle.std.specs.Prelude.{◌≡◌, ◌+◌, ◌≤◌, List, [], ◌∷◌, length}
+use Rattle.std.specs.Prelude.{◌≡◌, ◌+◌, ◌≤◌, List, [], ◌∷◌, ◌++◌, length}
+use Rattle.c_ast.specs.declared.program.BlockItem.{BlockItem}
 use Rattle.c_parser.specs.declared.words.Word.{Word}
 use Rattle.c_parser.specs.declared.spot.Spot.{Spot}
 use Rattle.c_parser.specs.declared.spot.TheConstants.{NESTING}
 use Rattle.c_parser.specs.declared.errors.ParseError.{ParseError}
-use Rattle.c_parser.specs.Steps.{Value}
-use Rattle.c_parser.specs.Grammar.{Symbol}
+use Rattle.c_parser.specs.Steps.{Value, BlockItems}
+use Rattle.c_parser.specs.Grammar.{Symbol, N}
+use Rattle.c_parser.specs.Grammar as form
 use Rattle.c_parser.specs.Paths.{Path, Leads, Breaks}
 
 -- a spot in which a part of an expression may begin
@@ -38,3 +40,15 @@ pub record Turns (words : List Word) (from : Spot) (front : List Symbol → List
 pub record Halts (words : List Word) (from : Spot) (front : List Symbol → List Symbol) (old : Value) (e : ParseError) : Type 0 where
   pub halts : (start : Spot) (all left : List Symbol) (values : List Value)
       → Path NESTING words start all from (front left) (old ∷ values) → Breaks NESTING words start all e
+
+-- an item of a block is read, and comes to the end of those before it
+pub record Pushes (words : List Word) (from to : Spot) (item : BlockItem) : Type 0 where
+  pub pushes : (start : Spot) (all left : List Symbol) (values : List Value) (items : List BlockItem)
+      → Path NESTING words start all from (N form.BlockItems ∷ left) (BlockItems items ∷ values)
+      → Path NESTING words start all to (N form.BlockItems ∷ left) (BlockItems (items ++ item ∷ []) ∷ values)
+  pub moves : Moves words from to
+
+-- and the descent stops there
+pub record Sticks (words : List Word) (from : Spot) (e : ParseError) : Type 0 where
+  pub sticks : (start : Spot) (all left : List Symbol) (values : List Value) (items : List BlockItem)
+      → Path NESTING words start all from (N form.BlockItems ∷ left) (BlockItems items ∷ values) → Breaks NESTING words start all e

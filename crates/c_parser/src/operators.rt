@@ -1,7 +1,7 @@
 //! The operators of an expression, and what can begin one.
 
 ghost use Rattle.c_parser.specs.Grammar as form;
-ghost use Rattle.c_parser.specs.Operators.{begins_suffix, IsNoOperator, IsOperator, IsPrefix, level_of, no_prefix, op_of, prefix_of};
+ghost use Rattle.c_parser.specs.Operators.{begins_evaluation, begins_item, begins_suffix, is_evaluation, IsNoOperator, IsOperator, IsPrefix, level_of, no_prefix, op_of, prefix_of};
 ghost use Rattle.c_parser.specs.Ways.{can_be, can_begin, firsts, opens_type};
 ghost use Rattle.std.specs.Prelude.{◌≡◌, ◌^◌, ◌<◌, ◌≤◌, drop, length, IfNone, IfSome, IsTrue};
 
@@ -161,6 +161,83 @@ fn is_primary(sign: Terminal) -> bool
         sign,
         Terminal::Name | Terminal::Number | Terminal::Character | Terminal::String | Terminal::Open
     )
+}
+
+/// Whether an expression or `;` is next.
+pub fn begins_evaluation(words: &[Word], at: usize) -> bool
+    ensures { result ≡ begins_evaluation (drop at words.now) }
+{
+    if at >= words.len() {
+        return false;
+    }
+    is_evaluation(words[at].terminal)
+}
+
+/// Whether an expression or `;` can begin with this terminal.
+fn is_evaluation(sign: Terminal) -> bool
+    ensures { result ≡ is_evaluation sign }
+{
+    matches!(
+        sign,
+        Terminal::Name
+            | Terminal::Number
+            | Terminal::Character
+            | Terminal::String
+            | Terminal::Sizeof
+            | Terminal::Minus
+            | Terminal::Star
+            | Terminal::Ampersand
+            | Terminal::Tilde
+            | Terminal::Exclamation
+            | Terminal::Open
+            | Terminal::Semicolon
+    )
+}
+
+/// Whether a statement can begin with this terminal.
+fn is_statement(sign: Terminal) -> bool
+    ensures { result ≡ can_be (firsts form.Statement) sign }
+{
+    matches!(
+        sign,
+        Terminal::If
+            | Terminal::While
+            | Terminal::For
+            | Terminal::Do
+            | Terminal::Return
+            | Terminal::Break
+            | Terminal::Continue
+            | Terminal::OpenBrace
+            | Terminal::Name
+            | Terminal::Number
+            | Terminal::Character
+            | Terminal::String
+            | Terminal::Sizeof
+            | Terminal::Minus
+            | Terminal::Star
+            | Terminal::Ampersand
+            | Terminal::Tilde
+            | Terminal::Exclamation
+            | Terminal::Open
+            | Terminal::Semicolon
+    )
+}
+
+/// Whether a statement is next.
+fn begins_statement(words: &[Word], at: usize) -> bool
+    ensures { result ≡ can_begin form.Statement (drop at words.now) }
+{
+    if at >= words.len() {
+        return false;
+    }
+    is_statement(words[at].terminal)
+}
+
+/// Whether a declaration or a statement is next.
+pub fn begins_item(words: &[Word], at: usize) -> bool
+    ensures { result ≡ begins_item (drop at words.now) }
+{
+    begins_type(words, at) | begins_statement(words, at)
 }
 
 /// Whether a suffix is next.

@@ -93,3 +93,16 @@ pub fn take_here(words: &[Word], spot: Spot, wanted: Terminal) -> Result<(u32, S
     let (word, behind) = take(words, spot, wanted)?;
     Ok((word.place, behind))
 }
+
+/// The place of the next word.
+pub fn place_here(words: &[Word], spot: Spot) -> Result<u32, ParseError>
+    requires { IsReady words.now spot }
+    ensures read { IfOk result (λ r. Leads NESTING words.now spot (Here ∷ []) spot (Place r ∷ [])) }
+    ensures more { IfOk result (λ r. spot.at < length words.now) }
+    ensures refused { IfErr result (Breaks NESTING words.now spot (Here ∷ [])) }
+{
+    if spot.at >= words.len() {
+        return Err(fault(words, spot));
+    }
+    Ok(words[spot.at].place)
+}
