@@ -17,3 +17,5 @@ pub mod Chains
 pub mod LevelLemmas
 pub mod ObjectLemmas
 pub mod StatementLemmas
+pub mod MemberLemmas
+pub mod StructureLemmas

@@ -1,0 +1,53 @@
+use Rattle.std.proofs.Common.{◌≡◌, ◌+◌, ◌-◌, ◌<◌, ◌≤◌, List, [], ◌∷◌, ◌++◌, length, drop, true, false, refl, sym, ap, subst, ◌∙◌, arith, lit<}
+use Rattle.std.proofs.lemmas.Bool.{cond-true, cond-false}
+use Rattle.std.proofs.Common.{None}
+use Rattle.c_ast.specs.declared.program.Expression.{Expression}
+use Rattle.c_parser.specs.declared.words.Terminal.TheVariants as terminal
+use Rattle.c_parser.specs.declared.spot.TheConstants.{NESTING}
+use Rattle.c_parser.specs.declared.errors.ParseError.{ParseError}
+use Rattle.c_parser.specs.Descent.{Faults, plain}
+use Rattle.c_parser.specs.Grammar as form
+use Rattle.c_parser.specs.Grammar.{AfterUnary, B, Ends, Here, In, L, Left, M, N, Out, T, Symbol, operand, prefix}
+use Rattle.c_parser.specs.Operators.{begins_suffix, level_at, operands_between, prefix_of}
+use Rattle.c_parser.specs.Parts.{Moves, Turns}
+use Rattle.c_parser.specs.Paths.{Path, Breaks}
+use Rattle.c_parser.specs.Steps.{Arguments, First, Push, Give, MakeName, MakeNumber, MakeCharacter, MakeString, MakeArrow, MakeAssign, MakeBracket, MakeCall, MakeCast, MakeChoice, MakeDot, MakeIndex, MakeInfix, MakePrefix, MakeSizeof, OfExpression, Perhaps, AllInitialised, OfInitialised, MakeSome, MakeMember, MakeStructure, Members, OfMember, Declarators, OfDeclarator, Parameters, OfParameter, MakeInitialised, MakeDeclaration}
+use Rattle.c_parser.specs.Ways.{typed_operand, operands_left}
+use Rattle.c_parser.proofs.NumberLemmas.{number_at, number_else}
+use Rattle.c_parser.proofs.PathLemmas.{begin_path, rule_path, build_path, no_word_stop}
+use Rattle.c_parser.proofs.StructureLemmas.{structure_number, members_number}
+use Rattle.c_parser.proofs.OperatorLemmas.{arguments_number, postfix_number, expression_number, conditional_number, prefix_path}
+use Rattle.c_parser.proofs.Chains.{stays, turns_not, turns_then, whole_ends, moved_whole, deeper, starts, by_rule, read, made, entered, leaves, counted, exits, exits_so, stops_at, halts_so, moved_by_one, moved_by_form, moved_then, moved_counted, moved_inside}
+use Rattle.c_parser.proofs.structures.more_members.Goals as goal
+
+pub loop-alloc-init : goal.loop-alloc-init
+loop-alloc-init c = record {
+  turned = record {
+    turns = λ start all left values p. rw (c.in_ok-push.ensures.ok, c.new-members.ensures) (made (λ built. refl) p);
+    moves = stays c.requires.shallow.ended c.requires.ready.within;
+  };
+  none_ended = c.requires.none_ended;
+}
+
+pub returns-in_err-next-clause-refused : goal.returns-in_err-next-clause-refused
+returns-in_err-next-clause-refused c =
+    halts_so c.args.words.now c.args.spot (λ back. B First ∷ N form.Members ∷ back) (OfMember c.args.first) c.from_residual-in_err-next.result c.in_err-next.field-0.0 c.from_residual-in_err-next.ensures.1 (λ start all left values p.
+    let p1 = by_rule form.Members 0 (members_number (drop c.loop-alloc.here.at c.args.words.now) true (sym c.begins_type.ensures ∙ c.loop-alloc-test.true)) (lit< tt) (c.loop-alloc.invariant.turned.turns start all left values p) in
+    stops_at (N form.Member ∷ []) _ c.in_err-next.field-0.0 p1 c.in_err-next.ensures.refused)
+
+pub loop-alloc-preserved : goal.loop-alloc-preserved
+loop-alloc-preserved c = record {
+  turned = record {
+    turns = λ start all left values p.
+        let p1 = by_rule form.Members 0 (members_number (drop c.loop-alloc.here.at c.args.words.now) true (sym c.begins_type.ensures ∙ c.loop-alloc-test.true)) (lit< tt) (c.loop-alloc.invariant.turned.turns start all left values p) in
+        rw c.in_ok-push-2.ensures.ok (made (λ built. refl) (read c.in_ok-next.ensures.read.leads p1));
+    moves = moved_then c.loop-alloc.invariant.turned.moves c.in_ok-next.ensures.read.moves;
+  };
+  none_ended = c.in_ok-next.ensures.none_ended;
+}
+
+pub returns-clause-read : goal.returns-clause-read
+returns-clause-read c = record {
+  turns = λ start all left values p. by_rule form.Members 1 (members_number (drop c.loop-alloc.here.at c.args.words.now) false (sym c.begins_type.ensures ∙ c.loop-alloc-test.false)) (lit< tt) (c.loop-alloc.invariant.turned.turns start all left values p);
+  moves = c.loop-alloc.invariant.turned.moves;
+}
