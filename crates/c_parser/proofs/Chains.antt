@@ -14,7 +14,7 @@ use Rattle.c_ast.specs.declared.program.BlockItem.{BlockItem}
 use Rattle.c_parser.specs.Grammar as form
 use Rattle.c_parser.specs.Ways.{ways, way_at, way_number}
 use Rattle.c_parser.specs.Paths.{Path, Leads, Breaks, Parses}
-use Rattle.c_parser.specs.Parts.{Moves, Halts, Turns, Sticks}
+use Rattle.c_parser.specs.Parts.{Fails, Moves, Halts, Turns, Sticks}
 use Rattle.c_parser.proofs.PathLemmas.{begin_path, rule_path, pair_path, breaks, build_path, mark_path, unless_path, err_out}
 
 abbrev pub deeper : Spot → Spot
@@ -79,6 +79,11 @@ pub sticks_so : {A : Type 0} (words : List Word) (from : Spot) (r : Result A Par
     → ((start : Spot) (all left : List Symbol) (values : List Value) (items : List BlockItem) → Path NESTING words start all from (N form.BlockItems ∷ left) (BlockItems items ∷ values) → Breaks NESTING words start all e)
     → IfErr r (Sticks words from)
 sticks_so {A} words from r e h q = err_out (Sticks words from) r e h (record { sticks = q })
+
+pub fails_so : {A : Type 0} (words : List Word) (from : Spot) (front : List Symbol → List Symbol) (olds : List Value) (r : Result A ParseError) (e : ParseError) → IsErrAnd r (λ y. y ≡ e)
+    → ((start : Spot) (all left : List Symbol) (values : List Value) → Path NESTING words start all from (front left) (olds ++ values) → Breaks NESTING words start all e)
+    → IfErr r (Fails words from front olds)
+fails_so {A} words from front olds r e h q = err_out (Fails words from front olds) r e h (record { fails = q })
 
 -- by a way of a form
 pub by_rule : {words : List Word} {from to : Spot} {all left : List Symbol} {new : List Value} (f : Form) (i : ℕ) → way_number f (drop to.at words) ≡ i → i < length (ways f)

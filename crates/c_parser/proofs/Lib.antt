@@ -19,3 +19,4 @@ pub mod ObjectLemmas
 pub mod StatementLemmas
 pub mod MemberLemmas
 pub mod StructureLemmas
+pub mod ItemLemmas

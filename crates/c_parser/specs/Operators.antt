@@ -6,7 +6,7 @@ use Rattle.c_ast.specs.declared.program.PrefixOp.{PrefixOp}
 use Rattle.c_ast.specs.declared.program.PrefixOp.TheVariants.{Negate, Complement, IsZero, Follow, Address}
 use Rattle.c_parser.specs.declared.words.Word.{Word}
 use Rattle.c_parser.specs.declared.words.Terminal.{Terminal}
-use Rattle.c_parser.specs.declared.words.Terminal.TheVariants.{Plus, Minus, Star, Slash, Percent, Ampersand, Bar, Caret, Tilde, Exclamation, Less, Greater, ShiftLeft, ShiftRight, LessEqual, GreaterEqual, EqualEqual, NotEqual, Both, Either, OpenBracket, Open, Dot, Arrow, Name, Number, Character, String, Sizeof, Semicolon}
+use Rattle.c_parser.specs.declared.words.Terminal.TheVariants.{Plus, Minus, Star, Slash, Percent, Ampersand, Bar, Caret, Tilde, Exclamation, Less, Greater, ShiftLeft, ShiftRight, LessEqual, GreaterEqual, EqualEqual, NotEqual, Both, Either, OpenBracket, Open, Dot, Arrow, Name, Number, Character, String, Sizeof, Semicolon, Equals, Comma}
 use Rattle.c_parser.specs.declared.operators.Operator.{Operator}
 use Rattle.c_parser.specs.Paths.{next_is}
 use Rattle.c_parser.specs.Ways.{can_begin}
@@ -142,3 +142,15 @@ begins_evaluation (w ∷ words) = is_evaluation w.terminal
 -- a declaration or a statement is next
 abbrev pub begins_item : List Word → Bool
 begins_item words = can_begin form.TypeName words || can_begin form.Statement words
+
+-- behind a declared name an object goes on, or ends
+abbrev pub follows_object : Terminal → Bool
+follows_object Equals = true
+follows_object Semicolon = true
+follows_object Comma = true
+follows_object OpenBracket = true
+follows_object t = false
+
+abbrev pub object_next : List Word → Bool
+object_next [] = false
+object_next (w ∷ words) = follows_object w.terminal

@@ -52,3 +52,13 @@ pub record Pushes (words : List Word) (from to : Spot) (item : BlockItem) : Type
 pub record Sticks (words : List Word) (from : Spot) (e : ParseError) : Type 0 where
   pub sticks : (start : Spot) (all left : List Symbol) (values : List Value) (items : List BlockItem)
       → Path NESTING words start all from (N form.BlockItems ∷ left) (BlockItems items ∷ values) → Breaks NESTING words start all e
+
+-- The same where several parts are built, the last one first: they become one part.
+pub record Grows (words : List Word) (from : Spot) (front : List Symbol → List Symbol) (olds : List Value) (to : Spot) (new : Value) : Type 0 where
+  pub grows : (start : Spot) (all left : List Symbol) (values : List Value)
+      → Path NESTING words start all from (front left) (olds ++ values) → Path NESTING words start all to left (new ∷ values)
+  pub moves : Moves words from to
+
+pub record Fails (words : List Word) (from : Spot) (front : List Symbol → List Symbol) (olds : List Value) (e : ParseError) : Type 0 where
+  pub fails : (start : Spot) (all left : List Symbol) (values : List Value)
+      → Path NESTING words start all from (front left) (olds ++ values) → Breaks NESTING words start all e

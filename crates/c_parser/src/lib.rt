@@ -8,6 +8,7 @@ mod declarators;
 mod errors;
 mod expressions;
 mod grammar;
+mod items;
 mod members;
 mod objects;
 mod operators;

@@ -1,7 +1,7 @@
 //! The operators of an expression, and what can begin one.
 
 ghost use Rattle.c_parser.specs.Grammar as form;
-ghost use Rattle.c_parser.specs.Operators.{begins_evaluation, begins_item, begins_suffix, is_evaluation, IsNoOperator, IsOperator, IsPrefix, level_of, no_prefix, op_of, prefix_of};
+ghost use Rattle.c_parser.specs.Operators.{begins_evaluation, begins_item, begins_suffix, follows_object, is_evaluation, IsNoOperator, IsOperator, IsPrefix, level_of, no_prefix, object_next, op_of, prefix_of};
 ghost use Rattle.c_parser.specs.Ways.{can_be, can_begin, firsts, opens_type};
 ghost use Rattle.std.specs.Prelude.{◌≡◌, ◌^◌, ◌<◌, ◌≤◌, drop, length, IfNone, IfSome, IsTrue};
 
@@ -238,6 +238,26 @@ pub fn begins_item(words: &[Word], at: usize) -> bool
     ensures { result ≡ begins_item (drop at words.now) }
 {
     begins_type(words, at) | begins_statement(words, at)
+}
+
+/// Whether this terminal goes on an object behind its name, or ends it.
+fn follows_object(sign: Terminal) -> bool
+    ensures { result ≡ follows_object sign }
+{
+    matches!(
+        sign,
+        Terminal::Equals | Terminal::Semicolon | Terminal::Comma | Terminal::OpenBracket
+    )
+}
+
+/// Whether an object goes on behind its name, or ends.
+pub fn object_next(words: &[Word], at: usize) -> bool
+    ensures { result ≡ object_next (drop at words.now) }
+{
+    if at >= words.len() {
+        return false;
+    }
+    follows_object(words[at].terminal)
 }
 
 /// Whether a suffix is next.
