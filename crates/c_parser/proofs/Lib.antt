@@ -20,3 +20,4 @@ pub mod StatementLemmas
 pub mod MemberLemmas
 pub mod StructureLemmas
 pub mod ItemLemmas
+pub mod ProgramLemmas

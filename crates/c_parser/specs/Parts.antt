@@ -1,6 +1,9 @@
 -- What the parser's functions for expressions say of the descent. No public contract cites it.
-use Rattle.std.specs.Prelude.{◌≡◌, ◌+◌, ◌≤◌, List, [], ◌∷◌, ◌++◌, length}
+use Rattle.std.specs.Prelude.{ℕ, ◌≡◌, ◌+◌, ◌≤◌, List, [], ◌∷◌, ◌++◌, length}
 use Rattle.c_ast.specs.declared.program.BlockItem.{BlockItem}
+use Rattle.c_ast.specs.declared.program.Item.{Item}
+use Rattle.c_parser.specs.declared.errors.ParseError.TheVariants.{NoMemory, SyntaxFault, DepthFault}
+use Rattle.c_parser.specs.Reading.{Nested, IsReading, IsWithin}
 use Rattle.c_parser.specs.declared.words.Word.{Word}
 use Rattle.c_parser.specs.declared.spot.Spot.{Spot}
 use Rattle.c_parser.specs.declared.spot.TheConstants.{NESTING}
@@ -62,3 +65,19 @@ pub record Grows (words : List Word) (from : Spot) (front : List Symbol → List
 pub record Fails (words : List Word) (from : Spot) (front : List Symbol → List Symbol) (olds : List Value) (e : ParseError) : Type 0 where
   pub fails : (start : Spot) (all left : List Symbol) (values : List Value)
       → Path NESTING words start all from (front left) (olds ++ values) → Breaks NESTING words start all e
+
+-- where the parser begins
+abbrev pub first_spot : Spot
+first_spot = record { at = 0; depth = 0; ended = 0; stars = 0 }
+
+-- the words are a program with these items, and no word is nested above the limit
+pub record IsProgramOf (limit : ℕ) (words : List Word) (items : List Item) : Type 0 where
+  pub way : List Nested
+  pub reading : IsReading words items way
+  pub within : IsWithin limit way
+
+-- the words are no such program; want of memory says nothing
+abbrev pub IsNoProgram : ℕ → List Word → ParseError → Type 0
+IsNoProgram limit words NoMemory = Unit {0}
+IsNoProgram limit words (SyntaxFault token) = (items : List Item) (way : List Nested) → IsReading words items way → IsWithin limit way → ⊥
+IsNoProgram limit words (DepthFault token) = (items : List Item) (way : List Nested) → IsReading words items way → IsWithin limit way → ⊥

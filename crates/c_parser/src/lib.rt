@@ -12,6 +12,7 @@ mod items;
 mod members;
 mod objects;
 mod operators;
+mod program;
 mod spot;
 mod statements;
 mod structures;
