@@ -9,12 +9,12 @@ use Rattle.c_parser.specs.declared.spot.Spot.{Spot}
 use Rattle.c_parser.specs.declared.spot.TheConstants.{NESTING}
 use Rattle.c_parser.specs.declared.errors.ParseError.{ParseError}
 use Rattle.c_parser.specs.declared.errors.ParseError.TheVariants.{NoMemory, SyntaxFault, DepthFault}
-use Rattle.c_parser.specs.Steps.{Items, Give}
+use Rattle.c_parser.specs.Steps.{Items}
 use Rattle.c_parser.specs.Grammar as form
 use Rattle.c_parser.specs.Grammar.{N, B}
 use Rattle.c_parser.specs.Ways.{can_begin, way_number}
-use Rattle.c_parser.specs.Reading.{State, start, Nested, IsReading, IsWithin}
-use Rattle.c_parser.specs.Descent.{Stop, Accepts, Faults, Deep, Descent, accepts, left_over}
+use Rattle.c_parser.specs.Reading.{start, Nested, IsReading, IsWithin}
+use Rattle.c_parser.specs.Descent.{Accepts, Faults, Deep, Descent, accepts, left_over}
 use Rattle.c_parser.specs.Paths.{state_at, Path, Breaks}
 use Rattle.c_parser.specs.Parts.{first_spot, IsProgramOf, IsNoProgram}
 use Rattle.c_parser.proofs.Descents.{one_stop, program_reads, program_accepted}

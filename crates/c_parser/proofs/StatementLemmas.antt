@@ -6,7 +6,7 @@ use Rattle.c_parser.specs.declared.words.Terminal.{Terminal}
 use Rattle.c_parser.specs.declared.words.Terminal.TheVariants.{If, While, Do, For, Return, Break, Continue, Name, Number, Character, String, Sizeof, Minus, Star, Ampersand, Tilde, Exclamation, Open, Semicolon}
 use Rattle.c_parser.specs.Terminals.{same_terminal}
 use Rattle.c_parser.specs.Grammar as form
-use Rattle.c_parser.specs.Ways.{can_be, can_begin, firsts, way_number, begun_way}
+use Rattle.c_parser.specs.Ways.{can_begin, way_number, begun_way}
 use Rattle.c_parser.specs.Reading.{BeginWith}
 use Rattle.c_parser.specs.Operators.{is_evaluation, begins_evaluation, begins_item}
 use Rattle.c_parser.specs.Paths.{next_is}

@@ -1,23 +1,11 @@
-use Rattle.std.proofs.Common.{◌≡◌, ◌+◌, ◌-◌, ◌<◌, ◌≤◌, List, [], ◌∷◌, ◌++◌, length, drop, true, false, refl, sym, ap, subst, ◌∙◌, arith, lit<}
-use Rattle.std.proofs.lemmas.Bool.{cond-true, cond-false}
-use Rattle.std.proofs.Common.{None}
-use Rattle.c_ast.specs.declared.program.Expression.{Expression}
+use Rattle.std.proofs.Common.{[], ◌∷◌, drop, refl, sym, ◌∙◌, lit<}
 use Rattle.c_parser.specs.declared.words.Terminal.TheVariants as terminal
-use Rattle.c_parser.specs.declared.spot.TheConstants.{NESTING}
-use Rattle.c_parser.specs.declared.errors.ParseError.{ParseError}
-use Rattle.c_parser.specs.Descent.{Faults, plain}
 use Rattle.c_parser.specs.Grammar as form
 use Rattle.c_parser.specs.Grammar.{AfterUnary, AfterName, AfterObject, AfterParameters, AfterStars, B, Ends, Here, In, L, Left, M, N, Out, T, Symbol, operand, prefix}
-use Rattle.c_parser.specs.Operators.{begins_suffix, level_at, operands_between, prefix_of}
-use Rattle.c_parser.specs.Parts.{Moves, Turns}
-use Rattle.c_parser.specs.Paths.{Path, Breaks}
-use Rattle.c_parser.specs.Steps.{Arguments, First, Push, Give, MakeName, MakeNumber, MakeCharacter, MakeString, MakeArrow, MakeAssign, MakeBracket, MakeCall, MakeCast, MakeChoice, MakeDot, MakeIndex, MakeInfix, MakePrefix, MakeSizeof, OfExpression, Perhaps, AllInitialised, OfInitialised, MakeSome, MakeStructure, MakeObject, MakePrototype, MakeFunction, MakePointer, MakeDeclarator, Members, OfMember, OfItem, OfDeclaration, OfSpecifier, Stars, Leaf, Declarators, OfDeclarator, Parameters, OfParameter, MakeInitialised, MakeDeclaration}
-use Rattle.c_parser.specs.Ways.{typed_operand, operands_left}
-use Rattle.c_parser.proofs.NumberLemmas.{number_at, number_else}
-use Rattle.c_parser.proofs.PathLemmas.{begin_path, rule_path, build_path, no_word_stop}
-use Rattle.c_parser.proofs.ItemLemmas.{object_number, name_number, plain_number, called_number, no_body_number}
-use Rattle.c_parser.proofs.OperatorLemmas.{arguments_number, postfix_number, expression_number, conditional_number, prefix_path}
-use Rattle.c_parser.proofs.Chains.{stays, turns_not, turns_then, whole_ends, moved_whole, deeper, starts, by_rule, read, made, entered, leaves, counted, exits, exits_so, stops_at, halts_so, fails_so, moved_by_one, moved_by_form, moved_then, moved_counted, moved_inside}
+use Rattle.c_parser.specs.Parts.{Moves}
+use Rattle.c_parser.specs.Steps.{OfSpecifier, Stars, Leaf, OfDeclarator}
+use Rattle.c_parser.proofs.ItemLemmas.{plain_number, called_number}
+use Rattle.c_parser.proofs.Chains.{by_rule, read, made, stops_at, fails_so, moved_by_one, moved_by_form, moved_then}
 use Rattle.c_parser.proofs.items.after_name.Goals as goal
 
 pub returns-in_err-shape-clause-refused : goal.returns-in_err-shape-clause-refused

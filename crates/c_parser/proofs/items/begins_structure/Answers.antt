@@ -1,8 +1,7 @@
-use Rattle.std.proofs.Common.{◌≡◌, ◌+◌, ◌-◌, ◌<◌, ◌&&◌, drop, length, sym, ap, ◌∙◌, arith}
-use Rattle.std.proofs.lemmas.List.{drop_all, length-drop}
+use Rattle.std.proofs.Common.{◌&&◌, drop, sym, ap, ◌∙◌, arith}
+use Rattle.std.proofs.lemmas.List.{length-drop}
 use Rattle.c_parser.specs.Paths.{next_is}
 use Rattle.c_parser.specs.declared.words.Terminal.TheVariants.{Struct}
-use Rattle.c_parser.specs.Ways.{begins_structure}
 use Rattle.c_parser.proofs.ItemLemmas.{structure_short, structure_long}
 use Rattle.c_parser.proofs.items.begins_structure.Goals as goal
 

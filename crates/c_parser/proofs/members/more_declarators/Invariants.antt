@@ -1,4 +1,4 @@
-use Rattle.std.proofs.Common.{[], ◌∷◌, ◌≡◌, ◌+◌, ◌-◌, ◌≤◌, length}
+use Rattle.std.proofs.Common.{◌∷◌, ◌≡◌, ◌-◌, length}
 use Rattle.c_parser.specs.Grammar as form
 use Rattle.c_parser.specs.Grammar.{N, B}
 use Rattle.c_parser.specs.Parts.{Turns}

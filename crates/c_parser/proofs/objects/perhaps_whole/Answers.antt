@@ -1,23 +1,9 @@
-use Rattle.std.proofs.Common.{◌≡◌, ◌+◌, ◌-◌, ◌<◌, ◌≤◌, List, [], ◌∷◌, ◌++◌, length, drop, true, false, refl, sym, ap, subst, ◌∙◌, arith, lit<}
-use Rattle.std.proofs.lemmas.Bool.{cond-true, cond-false}
-use Rattle.std.proofs.Common.{None}
-use Rattle.c_ast.specs.declared.program.Expression.{Expression}
-use Rattle.c_parser.specs.declared.words.Terminal.TheVariants as terminal
-use Rattle.c_parser.specs.declared.spot.TheConstants.{NESTING}
-use Rattle.c_parser.specs.declared.errors.ParseError.{ParseError}
-use Rattle.c_parser.specs.Descent.{Faults, plain}
+use Rattle.std.proofs.Common.{[], ◌∷◌, drop, true, false, refl, sym, ◌∙◌, lit<}
 use Rattle.c_parser.specs.Grammar as form
 use Rattle.c_parser.specs.Grammar.{AfterUnary, B, Ends, Here, In, L, Left, M, N, Out, T, Symbol, operand, prefix}
-use Rattle.c_parser.specs.Operators.{begins_suffix, level_at, operands_between, prefix_of}
-use Rattle.c_parser.specs.Parts.{Moves, Turns}
-use Rattle.c_parser.specs.Paths.{Path, Breaks}
-use Rattle.c_parser.specs.Steps.{Arguments, First, Push, Give, MakeName, MakeNumber, MakeCharacter, MakeString, MakeArrow, MakeAssign, MakeBracket, MakeCall, MakeCast, MakeChoice, MakeDot, MakeIndex, MakeInfix, MakePrefix, MakeSizeof, OfExpression, Perhaps, AllInitialised, OfInitialised, MakeSome, MakeInitialised, MakeDeclaration}
-use Rattle.c_parser.specs.Ways.{typed_operand, operands_left}
-use Rattle.c_parser.proofs.NumberLemmas.{number_at, number_else}
-use Rattle.c_parser.proofs.PathLemmas.{begin_path, rule_path, build_path, no_word_stop}
-use Rattle.c_parser.proofs.ObjectLemmas.{whole_number, perhaps_whole_number, object_number, declaration_number}
-use Rattle.c_parser.proofs.OperatorLemmas.{arguments_number, postfix_number, expression_number, conditional_number, prefix_path}
-use Rattle.c_parser.proofs.Chains.{stays, turns_not, turns_then, whole_ends, moved_whole, deeper, starts, by_rule, read, made, entered, leaves, counted, exits, exits_so, stops_at, halts_so, moved_by_one, moved_by_form, moved_then, moved_counted, moved_inside}
+use Rattle.c_parser.specs.Parts.{Moves}
+use Rattle.c_parser.proofs.ObjectLemmas.{perhaps_whole_number}
+use Rattle.c_parser.proofs.Chains.{stays, starts, by_rule, read, made, exits}
 use Rattle.c_parser.proofs.objects.perhaps_whole.Goals as goal
 
 pub returns-in_err-value-clause-refused : goal.returns-in_err-value-clause-refused

@@ -1,4 +1,4 @@
-use Rattle.std.proofs.Common.{[], ◌∷◌, ◌≡◌, ◌+◌, ◌-◌, ◌≤◌, true, false, length, drop, refl, sym, subst, ◌∙◌, arith, lit<}
+use Rattle.std.proofs.Common.{[], ◌∷◌, true, false, drop, refl, sym, subst, ◌∙◌, arith, lit<}
 use Rattle.c_parser.specs.declared.spot.TheConstants.{NESTING}
 use Rattle.c_parser.specs.declared.errors.ParseError.{ParseError}
 use Rattle.c_parser.specs.Grammar as form

@@ -1,4 +1,4 @@
-use Rattle.std.proofs.Common.{[], ◌∷◌, ◌≡◌, ◌+◌, ◌-◌, ◌*◌, ◌<◌, ◌≤◌, length}
+use Rattle.std.proofs.Common.{[], ◌∷◌, ◌≡◌, ◌+◌, ◌-◌, ◌*◌, ◌<◌, length}
 use Rattle.c_parser.specs.declared.words.Terminal.TheVariants as terminal
 use Rattle.c_parser.specs.declared.spot.TheConstants.{NESTING}
 use Rattle.c_parser.specs.Grammar as form

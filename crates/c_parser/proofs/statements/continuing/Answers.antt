@@ -1,22 +1,10 @@
-use Rattle.std.proofs.Common.{◌≡◌, ◌+◌, ◌-◌, ◌<◌, ◌≤◌, List, [], ◌∷◌, ◌++◌, length, drop, true, false, refl, sym, ap, subst, ◌∙◌, arith, lit<}
-use Rattle.std.proofs.lemmas.Bool.{cond-true, cond-false}
+use Rattle.std.proofs.Common.{[], ◌∷◌, refl}
 use Rattle.c_ast.specs.declared.program.StatementKind as statement
-use Rattle.c_ast.specs.declared.program.Expression.{Expression}
 use Rattle.c_parser.specs.declared.words.Terminal.TheVariants as terminal
-use Rattle.c_parser.specs.declared.spot.TheConstants.{NESTING}
-use Rattle.c_parser.specs.declared.errors.ParseError.{ParseError}
-use Rattle.c_parser.specs.Descent.{Faults, plain}
-use Rattle.c_parser.specs.Grammar as form
-use Rattle.c_parser.specs.Grammar.{AfterUnary, B, Ends, Here, In, L, Left, M, N, Out, T, Symbol, operand, prefix}
-use Rattle.c_parser.specs.Operators.{begins_suffix, level_at, operands_between, prefix_of}
-use Rattle.c_parser.specs.Parts.{Moves, Turns}
-use Rattle.c_parser.specs.Paths.{Path, Breaks}
-use Rattle.c_parser.specs.Steps.{Arguments, First, Push, Give, MakeName, MakeNumber, MakeCharacter, MakeString, MakeArrow, MakeAssign, MakeBracket, MakeCall, MakeCast, MakeChoice, MakeDot, MakeIndex, MakeInfix, MakePrefix, MakeSizeof, OfExpression, OfKind, OfStatement, OfBlock, BlockItems, MakeEval, MakeReturn, MakeIf, MakeIfElse, MakeWhile, MakeDoWhile, MakeFor, MakeStatement, MakeNested, MakeBlock}
-use Rattle.c_parser.specs.Ways.{typed_operand, operands_left}
-use Rattle.c_parser.proofs.NumberLemmas.{number_at, number_else}
-use Rattle.c_parser.proofs.PathLemmas.{no_word_stop}
-use Rattle.c_parser.proofs.StatementLemmas.{statement_number, block_number, not_begun, evaluation_number, other_number, declaration_next, statement_next, no_item}
-use Rattle.c_parser.proofs.Chains.{stays, turns_not, turns_then, guarded, deeper, starts, by_rule, read, made, entered, leaves, counted, exits, exits_so, stops_at, halts_so, moved_by_one, moved_by_form, moved_then, moved_counted, moved_inside}
+use Rattle.c_parser.specs.Grammar.{B, T}
+use Rattle.c_parser.specs.Parts.{Moves}
+use Rattle.c_parser.specs.Steps.{Give, OfKind}
+use Rattle.c_parser.proofs.Chains.{starts, read, made, exits, moved_by_one, moved_then}
 use Rattle.c_parser.proofs.statements.continuing.Goals as goal
 
 pub returns-in_err-one-clause-refused : goal.returns-in_err-one-clause-refused
