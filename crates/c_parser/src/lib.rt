@@ -16,6 +16,7 @@ mod program;
 mod spot;
 mod statements;
 mod structures;
+mod terminals;
 mod type_names;
 mod types;
 mod words;
