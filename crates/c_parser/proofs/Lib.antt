@@ -21,3 +21,5 @@ pub mod MemberLemmas
 pub mod StructureLemmas
 pub mod ItemLemmas
 pub mod ProgramLemmas
+pub mod NameLemmas
+pub mod TellingLemmas

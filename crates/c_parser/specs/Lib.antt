@@ -9,3 +9,4 @@ pub mod Programs
 pub mod Paths
 pub mod Operators
 pub mod Parts
+pub mod Words

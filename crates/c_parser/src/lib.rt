@@ -17,6 +17,7 @@ mod spot;
 mod statements;
 mod structures;
 mod terminals;
+mod tokens_words;
 mod type_names;
 mod types;
 mod words;
