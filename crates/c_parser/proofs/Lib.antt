@@ -23,3 +23,4 @@ pub mod ItemLemmas
 pub mod ProgramLemmas
 pub mod NameLemmas
 pub mod TellingLemmas
+pub mod BoundLemmas

@@ -1,5 +1,8 @@
 //! The program that a list of tokens is.
 //!
+//! `parse` answers it, or names the token at which it stops; `specs/Programs.antt` says what the program
+//! of a source is, with its names and strings by number.
+//!
 //! `specs/Grammar.antt` is the grammar, a rule for each form, and `specs/Reading.antt` says what a reading
 //! is, how deep it nests each word, and what it builds. Words are tokens as the grammar sees them.
 #![tactic(auto)]
@@ -12,6 +15,7 @@ mod items;
 mod members;
 mod objects;
 mod operators;
+mod parsing;
 mod program;
 mod spot;
 mod statements;
@@ -24,4 +28,5 @@ mod words;
 
 pub use errors::ParseError;
 pub use grammar::one_program;
+pub use parsing::parse;
 pub use words::{Terminal, Word};
