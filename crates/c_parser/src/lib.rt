@@ -30,3 +30,6 @@ pub use errors::ParseError;
 pub use grammar::one_program;
 pub use parsing::parse;
 pub use words::{Terminal, Word};
+
+#[cfg(test)]
+mod tests;
