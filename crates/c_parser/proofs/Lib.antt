@@ -12,3 +12,15 @@ pub mod TypeLemmas
 pub mod Examples
 pub mod TypeNameLemmas
 pub mod DeclaratorLemmas
+pub mod OperatorLemmas
+pub mod Chains
+pub mod LevelLemmas
+pub mod ObjectLemmas
+pub mod StatementLemmas
+pub mod MemberLemmas
+pub mod StructureLemmas
+pub mod ItemLemmas
+pub mod ProgramLemmas
+pub mod NameLemmas
+pub mod TellingLemmas
+pub mod BoundLemmas

@@ -7,3 +7,6 @@ pub mod Ways
 pub mod Descent
 pub mod Programs
 pub mod Paths
+pub mod Operators
+pub mod Parts
+pub mod Words

@@ -15,7 +15,7 @@ use c_ast::program::{Declarator, Parameter, Shape};
 use std::alloc::Global;
 
 /// `[LENGTH]`, or nothing.
-fn perhaps_length(words: &[Word], spot: Spot) -> Result<(Shape, Spot), ParseError>
+pub fn perhaps_length(words: &[Word], spot: Spot) -> Result<(Shape, Spot), ParseError>
     requires { IsReady words.now spot }
     ensures read { IfOk result (λ r. Parses words.now spot PerhapsLength r.1 (OfShape r.0)) }
     ensures refused { IfErr result (Breaks NESTING words.now spot (N PerhapsLength ∷ [])) }

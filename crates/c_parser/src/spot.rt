@@ -1,11 +1,11 @@
 //! A place among the words, and the one way on from it: to take the word that is wanted.
 
-ghost use Rattle.c_parser.specs.Grammar.{T, L};
+ghost use Rattle.c_parser.specs.Grammar.{Here, T, L};
 ghost use Rattle.c_parser.specs.Paths.{bound_of, Breaks, IsReady, Leads, next_is};
-ghost use Rattle.c_parser.specs.Steps.{Leaf};
+ghost use Rattle.c_parser.specs.Steps.{Leaf, Place};
 ghost use Rattle.c_parser.specs.declared.errors.ParseError.TheVariants.{SyntaxFault};
 ghost use Rattle.c_parser.specs.Terminals.{same_terminal};
-ghost use Rattle.std.specs.Prelude.{◌≡◌, ◌+◌, ◌^◌, ◌<◌, ◌≤◌, [], ◌∷◌, drop, length, IfErr, IfOk};
+ghost use Rattle.std.specs.Prelude.{◌≡◌, ◌+◌, ◌^◌, ◌<◌, ◌≤◌, [], ◌∷◌, drop, length, slice_get, IfErr, IfOk};
 
 use crate::errors::ParseError;
 use crate::words::{Terminal, Word};
@@ -60,6 +60,7 @@ pub fn take(words: &[Word], spot: Spot, wanted: Terminal) -> Result<(Word, Spot)
     ensures place { IfOk result (λ r. r.1 ≡ record spot { at = spot.at + 1 }) }
     ensures nesting { IfOk result (λ r. spot.depth + spot.ended + spot.stars ≤ NESTING) }
     ensures more { IfOk result (λ r. spot.at < length words.now) }
+    ensures word { IfOk result (λ r. slice_get words.now spot.at ≡ Some r.0) }
     ensures no_token { IfErr result (Breaks NESTING words.now spot (T wanted ∷ [])) }
     ensures no_leaf { IfErr result (Breaks NESTING words.now spot (L wanted ∷ [])) }
 {
@@ -75,4 +76,33 @@ pub fn take(words: &[Word], spot: Spot, wanted: Terminal) -> Result<(Word, Spot)
         ..spot
     };
     Ok((words[spot.at], behind))
+}
+
+/// The place of the word that is wanted next, and the spot behind it.
+pub fn take_here(words: &[Word], spot: Spot, wanted: Terminal) -> Result<(u32, Spot), ParseError>
+    requires { IsReady words.now spot }
+    ensures read { IfOk result (λ r. Leads NESTING words.now spot (Here ∷ T wanted ∷ []) r.1 (Place r.0 ∷ [])) }
+    ensures place { IfOk result (λ r. r.1 ≡ record spot { at = spot.at + 1 }) }
+    ensures nesting { IfOk result (λ r. spot.depth + spot.ended + spot.stars ≤ NESTING) }
+    ensures more { IfOk result (λ r. spot.at < length words.now) }
+    ensures refused { IfErr result (Breaks NESTING words.now spot (Here ∷ T wanted ∷ [])) }
+{
+    if spot.at >= words.len() {
+        return Err(fault(words, spot));
+    }
+    let (word, behind) = take(words, spot, wanted)?;
+    Ok((word.place, behind))
+}
+
+/// The place of the next word.
+pub fn place_here(words: &[Word], spot: Spot) -> Result<u32, ParseError>
+    requires { IsReady words.now spot }
+    ensures read { IfOk result (λ r. Leads NESTING words.now spot (Here ∷ []) spot (Place r ∷ [])) }
+    ensures more { IfOk result (λ r. spot.at < length words.now) }
+    ensures refused { IfErr result (Breaks NESTING words.now spot (Here ∷ [])) }
+{
+    if spot.at >= words.len() {
+        return Err(fault(words, spot));
+    }
+    Ok(words[spot.at].place)
 }

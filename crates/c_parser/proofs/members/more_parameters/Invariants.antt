@@ -1,0 +1,15 @@
+use Rattle.std.proofs.Common.{◌∷◌, ◌≡◌, ◌-◌, length}
+use Rattle.c_parser.specs.Grammar as form
+use Rattle.c_parser.specs.Grammar.{N, B}
+use Rattle.c_parser.specs.Parts.{Turns}
+use Rattle.c_parser.specs.Steps.{Parameters, OfParameter, First}
+use Rattle.c_parser.proofs.members.more_parameters.Given as goal
+
+abbrev pub invariant-loop-alloc : goal.invariant-loop-alloc
+invariant-loop-alloc l = record {
+  turned : Turns l.words l.fn.spot (λ back. B First ∷ N form.MoreParameters ∷ back) (OfParameter l.fn.first) l.here (λ back. N form.MoreParameters ∷ back) (Parameters l.parameters);
+  none_ended : l.here.ended ≡ 0;
+}
+
+abbrev pub decreases-loop-alloc : goal.decreases-loop-alloc
+decreases-loop-alloc l = length l.words - l.here.at
