@@ -41,12 +41,14 @@ fn write_items(out: &mut String, items: &[Item]) -> Result<(), Fail> {
     Ok(())
 }
 
-/// A short source's names, the number of its strings, and the numbers of the names that its items declare.
-fn reading(alloc: Global, source: &[u8]) -> Result<String, Fail> {
+/// A source's names, the number of its strings, and the numbers of the names that its items declare.
+fn reading(
+    rt: &impl std::process::Abort,
+    alloc: Global,
+    source: &[u8],
+) -> Result<String, Fail> {
+    assert!(rt; source.len() < 0x1_0000_0000, "a source has fewer than 2^32 bytes");
     let mut out = String::new(alloc);
-    if source.len() > 1000 {
-        return Ok(out);
-    }
     match lex(alloc, source) {
         Ok(tokens) => match parse(alloc, tokens.as_slice(), source) {
             Ok(program) => {
@@ -67,7 +69,7 @@ fn check(
     source: &[u8],
     want: &str,
 ) -> Result<(), Fail> {
-    let found = reading(alloc, source)?;
+    let found = reading(rt, alloc, source)?;
     assert_eq!(rt; found.as_str(), want, "{:?}", source);
     Ok(())
 }
