@@ -1,3 +1,7 @@
+mod leaning;
+mod productions;
+mod trees;
+
 use crate::grammar::one_program;
 use crate::parsing::parse;
 use c_ast::Text;
@@ -42,12 +46,11 @@ fn write_items(out: &mut String, items: &[Item]) -> Result<(), Fail> {
 }
 
 /// A source's names, the number of its strings, and the numbers of the names that its items declare.
-fn reading(
-    rt: &impl std::process::Abort,
-    alloc: Global,
-    source: &[u8],
-) -> Result<String, Fail> {
-    assert!(rt; source.len() < 0x1_0000_0000, "a source has fewer than 2^32 bytes");
+fn reading(rt: &impl std::process::Abort, alloc: Global, source: &[u8]) -> Result<String, Fail> {
+    assert!(rt;
+        source.len() < 0x1_0000_0000,
+        "a source has fewer than 2^32 bytes"
+    );
     let mut out = String::new(alloc);
     match lex(alloc, source) {
         Ok(tokens) => match parse(alloc, tokens.as_slice(), source) {
