@@ -1,4 +1,7 @@
 mod leaning;
+mod long_sources;
+mod near_misses;
+mod places;
 mod productions;
 mod trees;
 
