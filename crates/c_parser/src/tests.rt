@@ -1,3 +1,10 @@
+mod leaning;
+mod long_sources;
+mod near_misses;
+mod places;
+mod productions;
+mod trees;
+
 use crate::grammar::one_program;
 use crate::parsing::parse;
 use c_ast::Text;
