@@ -1,8 +1,7 @@
 //! Long sources, and sources that are nested 200 deep and one deeper.
 
 use crate::errors::ParseError;
-use crate::tests::trees::{first_body, program_of, refusal};
-use c_ast::Program;
+use crate::tests::trees::{body_length, program_of, refusal};
 use std::alloc::Global;
 use std::process::Abort;
 use std::test::Fail;
@@ -12,14 +11,6 @@ fn repeat(source: &mut Vec<u8>, text: &str, count: usize) -> Result<(), Fail> {
         source.extend_from_slice(text.as_bytes())?;
     }
     Ok(())
-}
-
-/// How many statements the first function has.
-fn body_length(program: &Program) -> Option<usize> {
-    match first_body(program) {
-        Some(block) => Some(block.items.len()),
-        None => None,
-    }
 }
 
 fn check_length(rt: &impl Abort, alloc: Global, source: &[u8], want: usize) -> Result<(), Fail> {

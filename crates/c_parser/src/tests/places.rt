@@ -1,12 +1,13 @@
 //! Where nodes lie: an expression and a statement at their first byte, a declared thing at its name.
 
 use crate::tests::trees::{
-    check_returned, first_of, first_statement, program_of, with_body, with_value, write_node,
+    check_returned, first_of, first_statement, program_of, returned, with_body, with_value,
+    write_node,
 };
 use c_ast::Program;
 use c_ast::program::{
-    Base, BlockItem, Declaration, Declarator, Expression, Header, Item, Parameter, Shape,
-    Specifier, Star, Statement, StatementKind,
+    Base, BlockItem, Declaration, Declarator, Expression, ExpressionKind, Header, Item, Parameter,
+    Shape, Specifier, Star, Statement, StatementKind,
 };
 use std::alloc::Global;
 use std::fmt::Write;
@@ -217,6 +218,36 @@ fn check_item(rt: &impl Abort, alloc: Global, source: &str, want: &str) -> Resul
     Ok(())
 }
 
+/// The place of the name behind `.` or `->`.
+fn name_place(expression: &Expression) -> Option<u32> {
+    match &expression.kind {
+        ExpressionKind::Member { name_place, .. } => Some(*name_place),
+        ExpressionKind::Arrow { name_place, .. } => Some(*name_place),
+        _ => None,
+    }
+}
+
+fn returned_name_place(program: &Program) -> Option<u32> {
+    match returned(program) {
+        Some(expression) => name_place(expression),
+        None => None,
+    }
+}
+
+fn check_name(rt: &impl Abort, alloc: Global, text: &str, want: u32) -> Result<(), Fail> {
+    let source = with_value(alloc, text)?;
+    let program = program_of(rt, alloc, source.as_slice())?;
+    assert_eq!(rt; returned_name_place(&program), Some(want), "{text}");
+    Ok(())
+}
+
+fn check_names(rt: &impl Abort, alloc: Global, rows: &[(&str, u32)]) -> Result<(), Fail> {
+    for row in rows {
+        check_name(rt, alloc, row.0, row.1)?;
+    }
+    Ok(())
+}
+
 fn check_values(rt: &impl Abort, alloc: Global, rows: &[(&str, &str)]) -> Result<(), Fail> {
     for row in rows {
         let source = with_value(alloc, row.0)?;
@@ -277,6 +308,21 @@ fn expressions(rt: HostRuntime) -> Result<(), Fail> {
             ("(a) = (b)", "=@20 name@21 name@27 "),
             ("(a) ? b : (c)", "?:@20 name@21 name@31 "),
             ("(int)(a)", "cast@20 name@26 - "),
+        ],
+    )
+}
+
+#[test]
+fn names_of_members(rt: HostRuntime) -> Result<(), Fail> {
+    check_names(
+        &rt,
+        rt.alloc(),
+        &[
+            ("a.b", 22),
+            ("a->b", 23),
+            ("a . b", 24),
+            ("a.b->c", 25),
+            ("(a -> b).c", 29),
         ],
     )
 }

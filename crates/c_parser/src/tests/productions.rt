@@ -1,7 +1,6 @@
 //! Each rule of the grammar in its least form and in a long one.
 
-use crate::tests::trees::{first_body, program_of, with_body, with_value};
-use c_ast::Program;
+use crate::tests::trees::{body_length, program_of, with_body, with_value};
 use std::alloc::Global;
 use std::process::Abort;
 use std::test::Fail;
@@ -10,14 +9,6 @@ fn check_items(rt: &impl Abort, alloc: Global, source: &str, want: usize) -> Res
     let program = program_of(rt, alloc, source.as_bytes())?;
     assert_eq!(rt; program.items.len(), want, "{source}");
     Ok(())
-}
-
-/// How many declarations and statements the first function has.
-fn body_length(program: &Program) -> Option<usize> {
-    match first_body(program) {
-        Some(block) => Some(block.items.len()),
-        None => None,
-    }
 }
 
 fn check_body(rt: &impl Abort, alloc: Global, source: &[u8], want: usize) -> Result<(), Fail> {

@@ -62,6 +62,14 @@ pub fn first_body(program: &Program) -> Option<&Block> {
     }
 }
 
+/// How many declarations and statements the first function has.
+pub fn body_length(program: &Program) -> Option<usize> {
+    match first_body(program) {
+        Some(block) => Some(block.items.len()),
+        None => None,
+    }
+}
+
 pub fn first_of(block: &Block) -> Option<&Statement> {
     match block.items.get(0) {
         Some(BlockItem::Run { statement }) => Some(statement),
