@@ -11,10 +11,10 @@ use Rattle.c_lexer.specs.declared.tokens.TokenKind.TheVariants as kind
 use Rattle.c_lexer.specs.Spelling.{escaped, is_plain, Spells, nothing, plain, escape}
 use Rattle.c_lexer.specs.Texts.{text_of, LiesIn, LieIn}
 use Rattle.c_lexer.specs.Tokens.{IsToken}
-use Rattle.c_parser.specs.declared.words.Word.{Word}
-use Rattle.c_parser.specs.declared.words.Terminal.{Terminal}
-use Rattle.c_parser.specs.declared.words.Terminal.TheVariants.{Name, String, Character}
-use Rattle.c_parser.specs.Terminals.{terminal_of, spelled_in, keyword_spellings, sign_spellings}
+use Rattle.c_grammar.specs.declared.words.Word.{Word}
+use Rattle.c_grammar.specs.declared.words.Terminal.{Terminal}
+use Rattle.c_grammar.specs.declared.words.Terminal.TheVariants.{Name, String, Character}
+use Rattle.c_grammar.specs.Terminals.{terminal_of, spelled_in, keyword_spellings, sign_spellings}
 use Rattle.c_parser.specs.Programs.{is_name, is_string, with_name, names_after, names_of, number_in, value_of, word_of, words_after, words_of_source}
 use Rattle.c_parser.specs.Paths.{bound_of, AreBounded}
 

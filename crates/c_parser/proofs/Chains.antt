@@ -1,18 +1,18 @@
 -- Paths and moves put together: spots and symbols are read off the facts.
 use Rattle.std.proofs.Common.{◌≡◌, ℕ, ◌+◌, ◌-◌, ◌<◌, ◌≤◌, List, [], ◌∷◌, ◌++◌, length, drop, refl, sym, ap, subst, ◌∙◌, arith}
 use Rattle.std.specs.Prelude.{Result, IfErr, IsErrAnd}
-use Rattle.c_parser.specs.declared.words.Word.{Word}
+use Rattle.c_grammar.specs.declared.words.Word.{Word}
 use Rattle.c_parser.specs.declared.spot.Spot.{Spot}
 use Rattle.c_parser.specs.declared.spot.TheConstants.{NESTING}
 use Rattle.c_parser.specs.declared.errors.ParseError.{ParseError}
 use Rattle.c_parser.specs.declared.errors.ParseError.TheVariants.{NoMemory}
-use Rattle.c_parser.specs.Steps.{Value, Step, BlockItems, build}
-use Rattle.c_parser.specs.Grammar.{Form, Symbol, M, B, N, In, Out, Ends, EndWhole, Unless}
-use Rattle.c_parser.specs.declared.words.Terminal.{Terminal}
-use Rattle.c_parser.specs.Reading.{BeginWith}
+use Rattle.c_grammar.specs.Steps.{Value, Step, BlockItems, build}
+use Rattle.c_grammar.specs.Grammar.{Form, Symbol, M, B, N, In, Out, CountOperator, ForgetOperators, Unless}
+use Rattle.c_grammar.specs.declared.words.Terminal.{Terminal}
+use Rattle.c_grammar.specs.Reading.{BeginWith}
 use Rattle.c_ast.specs.declared.program.BlockItem.{BlockItem}
-use Rattle.c_parser.specs.Grammar as form
-use Rattle.c_parser.specs.Ways.{ways, way_at, way_number}
+use Rattle.c_grammar.specs.Grammar as form
+use Rattle.c_grammar.specs.Ways.{ways, way_at, way_number}
 use Rattle.c_parser.specs.Paths.{Path, Leads, Breaks, Parses}
 use Rattle.c_parser.specs.Parts.{Fails, Moves, Halts, Turns, Sticks}
 use Rattle.c_parser.proofs.PathLemmas.{begin_path, rule_path, pair_path, breaks, build_path, mark_path, unless_path, err_out}
@@ -42,8 +42,8 @@ leaves {words} {from} {to} {all} {left} {new} d is p =
     mark_path NESTING words from all to Out left new (record to { depth = d }) refl (λ vs. λ i. record { depth = back i; ended = to.ended; stars = to.stars; built = vs }) p
 
 pub counted : {words : List Word} {from to : Spot} {all left : List Symbol} {new : List Value}
-    → Path NESTING words from all to (M Ends ∷ left) new → Path NESTING words from all (record to { ended = to.ended + 1 }) left new
-counted {words} {from} {to} {all} {left} {new} p = mark_path NESTING words from all to Ends left new (record to { ended = to.ended + 1 }) refl (λ vs. refl) p
+    → Path NESTING words from all to (M CountOperator ∷ left) new → Path NESTING words from all (record to { ended = to.ended + 1 }) left new
+counted {words} {from} {to} {all} {left} {new} p = mark_path NESTING words from all to CountOperator left new (record to { ended = to.ended + 1 }) refl (λ vs. refl) p
 
 -- the exit of a `?`
 pub exits : {A : Type 0} {words : List Word} {from middle : Spot} {all : List Symbol} {new : List Value} (a left : List Symbol) (r : Result A ParseError) (e : ParseError)
@@ -94,8 +94,8 @@ pub starts : (words : List Word) (from : Spot) (all : List Symbol) → Path NEST
 starts words from all = begin_path NESTING words from all
 
 pub whole_ends : {words : List Word} {from to : Spot} {all left : List Symbol} {new : List Value}
-    → Path NESTING words from all to (M EndWhole ∷ left) new → Path NESTING words from all (record to { ended = 0 }) left new
-whole_ends {words} {from} {to} {all} {left} {new} p = mark_path NESTING words from all to EndWhole left new (record to { ended = 0 }) refl (λ vs. refl) p
+    → Path NESTING words from all to (M ForgetOperators ∷ left) new → Path NESTING words from all (record to { ended = 0 }) left new
+whole_ends {words} {from} {to} {all} {left} {new} p = mark_path NESTING words from all to ForgetOperators left new (record to { ended = 0 }) refl (λ vs. refl) p
 
 pub guarded : {words : List Word} {from to : Spot} {all left : List Symbol} {new : List Value} {ts : List Terminal} → ¬ BeginWith ts (drop to.at words)
     → Path NESTING words from all to (Unless ts ∷ left) new → Path NESTING words from all to left new

@@ -1,10 +1,10 @@
 -- The numbers of a declarator's ways.
 use Rattle.std.proofs.Common.{◌≡◌, ℕ, Bool, true, false, cond, List, [], ◌∷◌, refl, ◌∙◌}
 use Rattle.std.proofs.lemmas.Bool.{cond-false}
-use Rattle.c_parser.specs.declared.words.Word.{Word}
-use Rattle.c_parser.specs.declared.words.Terminal.TheVariants.{Open}
-use Rattle.c_parser.specs.Grammar.{Declarator, Parameter, Left, AfterPointer}
-use Rattle.c_parser.specs.Ways.{way_number}
+use Rattle.c_grammar.specs.declared.words.Word.{Word}
+use Rattle.c_grammar.specs.declared.words.Terminal.TheVariants.{Open}
+use Rattle.c_grammar.specs.Grammar.{Declarator, Parameter, Left, AfterPointer}
+use Rattle.c_grammar.specs.Ways.{way_number}
 use Rattle.c_parser.specs.Paths.{next_is}
 
 zero_either : (b : Bool) (n : ℕ) → n ≡ cond b 0 0 → n ≡ 0

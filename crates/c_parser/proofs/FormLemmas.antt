@@ -1,14 +1,14 @@
 -- A form at a spot: the path by its way, and what a word alone makes of it.
 use Rattle.std.proofs.Common.{◌≡◌, ℕ, ◌+◌, ◌<◌, true, false, List, [], ◌∷◌, ◌++◌, length, drop, refl, sym, ap, subst, ◌∙◌, arith}
 use Rattle.std.proofs.lemmas.Bool.{cond-false}
-use Rattle.c_parser.specs.declared.words.Word.{Word}
-use Rattle.c_parser.specs.declared.words.Terminal.{Terminal}
-use Rattle.c_parser.specs.declared.words.Terminal.TheVariants.{Char, Int, Long, Void, Struct}
+use Rattle.c_grammar.specs.declared.words.Word.{Word}
+use Rattle.c_grammar.specs.declared.words.Terminal.{Terminal}
+use Rattle.c_grammar.specs.declared.words.Terminal.TheVariants.{Char, Int, Long, Void, Struct}
 use Rattle.c_parser.specs.declared.spot.Spot.{Spot}
 use Rattle.c_parser.specs.declared.spot.TheConstants.{NESTING}
-use Rattle.c_parser.specs.Steps.{Value, Give}
-use Rattle.c_parser.specs.Grammar.{Form, BaseType, Symbol, T, N, B}
-use Rattle.c_parser.specs.Ways.{ways, way_at, way_number, begun_way}
+use Rattle.c_grammar.specs.Steps.{Value, Give}
+use Rattle.c_grammar.specs.Grammar.{Form, BaseType, Symbol, T, N, B}
+use Rattle.c_grammar.specs.Ways.{ways, way_at, way_number, begun_way}
 use Rattle.c_parser.specs.Paths.{Path, Leads, Parses, next_is}
 use Rattle.c_parser.proofs.PathLemmas.{begin_path, rule_path, pair_path, build_path}
 use Rattle.c_parser.proofs.NumberLemmas.{number_at}

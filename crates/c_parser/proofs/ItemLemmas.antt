@@ -2,11 +2,11 @@
 use Rattle.std.proofs.Common.{◌≡◌, ℕ, ◌+◌, ◌<◌, Bool, true, false, cond, ◌&&◌, ◌||◌, List, [], ◌∷◌, length, get_or, drop, refl, sym, ap, ◌∙◌, arith}
 use Rattle.std.proofs.lemmas.Bool.{both_ways, cond-false}
 use Rattle.std.proofs.lemmas.List.{drop_more}
-use Rattle.c_parser.specs.declared.words.Word.{Word}
-use Rattle.c_parser.specs.declared.words.Terminal.TheVariants.{Open, Equals, Comma, OpenBracket, Semicolon, Struct, OpenBrace}
-use Rattle.c_parser.specs.Grammar.{Left, AfterName, AfterObject, AfterParameters, AfterStars}
-use Rattle.c_parser.specs.Ways.{way_number, begun_way, begins_structure}
-use Rattle.c_parser.specs.declared.words.Terminal.{Terminal}
+use Rattle.c_grammar.specs.declared.words.Word.{Word}
+use Rattle.c_grammar.specs.declared.words.Terminal.TheVariants.{Open, Equals, Comma, OpenBracket, Semicolon, Struct, OpenBrace}
+use Rattle.c_grammar.specs.Grammar.{Left, AfterName, AfterObject, AfterParameters, AfterStars}
+use Rattle.c_grammar.specs.Ways.{way_number, begun_way, begins_structure}
+use Rattle.c_grammar.specs.declared.words.Terminal.{Terminal}
 use Rattle.c_parser.specs.Operators.{follows_object, object_next}
 use Rattle.c_parser.specs.Paths.{next_is}
 use Rattle.c_parser.proofs.PathLemmas.{no_word}

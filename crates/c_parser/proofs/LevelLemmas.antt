@@ -2,18 +2,18 @@
 use Rattle.std.proofs.Common.{◌≡◌, ◌≢◌, ℕ, zero, suc, ◌+◌, ◌-◌, ◌<◌, ◌≤◌, Bool, true, false, cond, List, [], ◌∷◌, drop, refl, sym, ap, subst, ◌∙◌, inl, inr, arith, lit<}
 use Rattle.std.proofs.lemmas.Bool.{both_ways}
 use Rattle.c_ast.specs.declared.program.InfixOp.{InfixOp}
-use Rattle.c_parser.specs.declared.words.Word.{Word}
-use Rattle.c_parser.specs.declared.words.Terminal.{Terminal}
-use Rattle.c_parser.specs.declared.words.Terminal.TheVariants.{Plus, Minus, Star, Slash, Percent, Ampersand, Bar, Caret, Less, Greater, ShiftLeft, ShiftRight, LessEqual, GreaterEqual, EqualEqual, NotEqual, Both, Either}
+use Rattle.c_grammar.specs.declared.words.Word.{Word}
+use Rattle.c_grammar.specs.declared.words.Terminal.{Terminal}
+use Rattle.c_grammar.specs.declared.words.Terminal.TheVariants.{Plus, Minus, Star, Slash, Percent, Ampersand, Bar, Caret, Less, Greater, ShiftLeft, ShiftRight, LessEqual, GreaterEqual, EqualEqual, NotEqual, Both, Either}
 use Rattle.c_parser.specs.declared.operators.Operator.{Operator}
 use Rattle.c_parser.specs.declared.spot.Spot.{Spot}
 use Rattle.c_parser.specs.declared.spot.TheConstants.{NESTING}
-use Rattle.c_parser.specs.Steps.{Value, MakeInfix}
-use Rattle.c_parser.specs.Grammar.{Level, EitherLevel, BothLevel, OrLevel, XorLevel, AndLevel, EqualLevel, OrderLevel, ShiftLevel, SumLevel, ProductLevel, At, Operands, Cast, Symbol, T, N, M, B, Ends, operand}
-use Rattle.c_parser.specs.Ways.{way_number, begun_way}
+use Rattle.c_grammar.specs.Steps.{Value, MakeInfix}
+use Rattle.c_grammar.specs.Grammar.{Level, EitherLevel, BothLevel, OrLevel, XorLevel, AndLevel, EqualLevel, OrderLevel, ShiftLevel, SumLevel, ProductLevel, At, Operands, Cast, Symbol, T, N, M, B, CountOperator, operand}
+use Rattle.c_grammar.specs.Ways.{way_number, begun_way}
 use Rattle.c_parser.specs.Operators.{level_of, op_of, level_at, operands_then, operands_between, next_level, IsOperator, IsNoOperator}
 use Rattle.c_parser.specs.Paths.{Path, next_is}
-use Rattle.c_parser.proofs.Picks.{terminal_is}
+use Rattle.c_grammar.proofs.Picks.{terminal_is}
 use Rattle.c_parser.proofs.NumberLemmas.{number_at}
 use Rattle.c_parser.proofs.Chains.{by_rule}
 
@@ -194,7 +194,7 @@ past_levels {words} {from} {to} {all} {new} left (suc n) low bound fits ten none
 
 at_sign : {words : List Word} {from to : Spot} {all left : List Symbol} {new : List Value} (sign : Terminal) → level_of sign < 10 → next_is (drop to.at words) sign ≡ true
     → Path NESTING words from all to (N (Operands (level_at (level_of sign))) ∷ left) new
-    → Path NESTING words from all to (T sign ∷ M Ends ∷ N (operand (level_at (level_of sign))) ∷ B (MakeInfix (op_of sign)) ∷ N (Operands (level_at (level_of sign))) ∷ left) new
+    → Path NESTING words from all to (T sign ∷ M CountOperator ∷ N (operand (level_at (level_of sign))) ∷ B (MakeInfix (op_of sign)) ∷ N (Operands (level_at (level_of sign))) ∷ left) new
 at_sign {words} {from} {to} {all} {left} {new} Star low h p = by_rule (Operands ProductLevel) 0 (number_at (Operands ProductLevel) Star (λ w ws. refl) (drop to.at words) h) (lit< tt) p
 at_sign {words} {from} {to} {all} {left} {new} Slash low h p = by_rule (Operands ProductLevel) 1 (number_at (Operands ProductLevel) Slash (λ w ws. refl) (drop to.at words) h) (lit< tt) p
 at_sign {words} {from} {to} {all} {left} {new} Percent low h p = by_rule (Operands ProductLevel) 2 (number_at (Operands ProductLevel) Percent (λ w ws. refl) (drop to.at words) h) (lit< tt) p
@@ -222,7 +222,7 @@ next_is_level (w ∷ ws) sign h = ap level_of (terminal_is w.terminal sign h)
 -- past the levels before an operator, to it
 pub to_operator : {words : List Word} {from to : Spot} {all : List Symbol} {new : List Value} (left : List Symbol) (passed bound : ℕ) (o : Operator) → bound ≤ 10 → IsOperator (drop to.at words) passed bound o
     → Path NESTING words from all to (operands_between passed bound left) new
-    → Path NESTING words from all to (T o.sign ∷ M Ends ∷ N (operand (level_at o.level)) ∷ B (MakeInfix o.op) ∷ operands_between o.level bound left) new
+    → Path NESTING words from all to (T o.sign ∷ M CountOperator ∷ N (operand (level_at o.level)) ∷ B (MakeInfix o.op) ∷ operands_between o.level bound left) new
 to_operator {words} {from} {to} {all} {new} left passed bound o ten is p =
     let level = next_is_level (drop to.at words) o.sign is.next ∙ is.level in
     let end : passed + (o.level - passed) ≡ o.level = omega (arith, is.from) in
@@ -234,11 +234,11 @@ to_operator {words} {from} {to} {all} {new} left passed bound o ten is p =
     let step = operands_step o.level bound left is.below in
     let opened : Path NESTING words from all to (N (Operands (level_at o.level)) ∷ operands_between (suc o.level) bound left) new =
     subst (λ (l : List Symbol). Path NESTING words from all to l new) step there in
-    let taken : Path NESTING words from all to (T o.sign ∷ M Ends ∷ N (operand (level_at (level_of o.sign))) ∷ B (MakeInfix (op_of o.sign)) ∷ N (Operands (level_at (level_of o.sign))) ∷ operands_between (suc o.level) bound left) new =
+    let taken : Path NESTING words from all to (T o.sign ∷ M CountOperator ∷ N (operand (level_at (level_of o.sign))) ∷ B (MakeInfix (op_of o.sign)) ∷ N (Operands (level_at (level_of o.sign))) ∷ operands_between (suc o.level) bound left) new =
     at_sign o.sign low is.next (subst (λ (i : ℕ). Path NESTING words from all to (N (Operands (level_at i)) ∷ operands_between (suc o.level) bound left) new) (sym is.level) opened) in
-    subst (λ (l : List Symbol). Path NESTING words from all to (T o.sign ∷ M Ends ∷ N (operand (level_at o.level)) ∷ B (MakeInfix o.op) ∷ l) new) (sym step)
-    (subst (λ (op : InfixOp). Path NESTING words from all to (T o.sign ∷ M Ends ∷ N (operand (level_at o.level)) ∷ B (MakeInfix op) ∷ N (Operands (level_at o.level)) ∷ operands_between (suc o.level) bound left) new) (sym is.op)
-    (subst (λ (i : ℕ). Path NESTING words from all to (T o.sign ∷ M Ends ∷ N (operand (level_at i)) ∷ B (MakeInfix (op_of o.sign)) ∷ N (Operands (level_at i)) ∷ operands_between (suc o.level) bound left) new) is.level taken))
+    subst (λ (l : List Symbol). Path NESTING words from all to (T o.sign ∷ M CountOperator ∷ N (operand (level_at o.level)) ∷ B (MakeInfix o.op) ∷ l) new) (sym step)
+    (subst (λ (op : InfixOp). Path NESTING words from all to (T o.sign ∷ M CountOperator ∷ N (operand (level_at o.level)) ∷ B (MakeInfix op) ∷ N (Operands (level_at o.level)) ∷ operands_between (suc o.level) bound left) new) (sym is.op)
+    (subst (λ (i : ℕ). Path NESTING words from all to (T o.sign ∷ M CountOperator ∷ N (operand (level_at i)) ∷ B (MakeInfix (op_of o.sign)) ∷ N (Operands (level_at i)) ∷ operands_between (suc o.level) bound left) new) is.level taken))
 
 -- past all levels
 pub no_operator : {words : List Word} {from to : Spot} {all : List Symbol} {new : List Value} (left : List Symbol) (passed bound : ℕ) → passed ≤ bound → bound ≤ 10 → IsNoOperator (drop to.at words) passed bound

@@ -1,15 +1,8 @@
-pub mod Runs
-pub mod WayLemmas
-pub mod Tables
-pub mod Begins
-pub mod Picks
-pub mod Descents
 pub mod TerminalLemmas
 pub mod PathLemmas
 pub mod NumberLemmas
 pub mod FormLemmas
 pub mod TypeLemmas
-pub mod Examples
 pub mod TypeNameLemmas
 pub mod DeclaratorLemmas
 pub mod OperatorLemmas
@@ -24,3 +17,4 @@ pub mod ProgramLemmas
 pub mod NameLemmas
 pub mod TellingLemmas
 pub mod BoundLemmas
+pub mod AnswerLemmas

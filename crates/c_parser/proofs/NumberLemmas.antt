@@ -1,13 +1,13 @@
 -- The number of a form's way at the next word.
 use Rattle.std.proofs.Common.{◌≡◌, Bool, true, false, cond, List, [], ◌∷◌, refl, ap, ◌∙◌}
 use Rattle.std.proofs.lemmas.Bool.{both_ways}
-use Rattle.c_parser.specs.declared.words.Word.{Word}
-use Rattle.c_parser.specs.declared.words.Terminal.{Terminal}
-use Rattle.c_parser.specs.Terminals.{same_terminal}
-use Rattle.c_parser.specs.Grammar.{Form}
-use Rattle.c_parser.specs.Ways.{begun_way, way_number}
+use Rattle.c_grammar.specs.declared.words.Word.{Word}
+use Rattle.c_grammar.specs.declared.words.Terminal.{Terminal}
+use Rattle.c_grammar.specs.Terminals.{same_terminal}
+use Rattle.c_grammar.specs.Grammar.{Form}
+use Rattle.c_grammar.specs.Ways.{begun_way, way_number}
 use Rattle.c_parser.specs.Paths.{next_is}
-use Rattle.c_parser.proofs.Picks.{terminal_is}
+use Rattle.c_grammar.proofs.Picks.{terminal_is}
 
 -- where one word decides, and it is this one
 pub number_at : (f : Form) (t : Terminal) → ((w : Word) (ws : List Word) → way_number f (w ∷ ws) ≡ begun_way f w.terminal)

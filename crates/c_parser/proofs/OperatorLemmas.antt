@@ -2,24 +2,24 @@
 use Rattle.std.proofs.Common.{◌≡◌, ℕ, ◌+◌, ◌-◌, ◌≤◌, Bool, true, false, cond, ◌&&◌, ◌||◌, Option, Some, None, inl, inr, List, [], ◌∷◌, get_or, drop, length, refl, sym, ap, subst, ◌∙◌, lit<}
 use Rattle.std.proofs.lemmas.Bool.{both_ways, cases_lt, cond-false}
 use Rattle.std.specs.Prelude.{is_none}
-use Rattle.c_parser.specs.declared.words.Word.{Word}
+use Rattle.c_grammar.specs.declared.words.Word.{Word}
 use Rattle.c_ast.specs.declared.program.PrefixOp.{PrefixOp}
 use Rattle.c_ast.specs.declared.program.PrefixOp.TheVariants.{Negate, Complement, IsZero, Follow, Address}
-use Rattle.c_parser.specs.declared.words.Terminal.{Terminal}
-use Rattle.c_parser.specs.declared.words.Terminal.TheVariants.{Minus, Tilde, Exclamation, Star, Ampersand, Open, Number, Character, String, Name, Sizeof, OpenBracket, Dot, Arrow, Equals}
+use Rattle.c_grammar.specs.declared.words.Terminal.{Terminal}
+use Rattle.c_grammar.specs.declared.words.Terminal.TheVariants.{Minus, Tilde, Exclamation, Star, Ampersand, Open, Number, Character, String, Name, Sizeof, OpenBracket, Dot, Arrow, Equals}
 use Rattle.c_parser.specs.declared.spot.Spot.{Spot}
 use Rattle.c_parser.specs.declared.spot.TheConstants.{NESTING}
-use Rattle.c_parser.specs.Terminals.{same_terminal}
-use Rattle.c_parser.specs.Grammar as form
-use Rattle.c_parser.specs.Grammar.{N, T, M, B, Here, Out, prefix}
-use Rattle.c_parser.specs.Ways.{can_begin, can_be, firsts, opens_type, way_number, begun_way}
+use Rattle.c_grammar.specs.Terminals.{same_terminal}
+use Rattle.c_grammar.specs.Grammar as form
+use Rattle.c_grammar.specs.Grammar.{N, T, M, B, Here, Out, prefix}
+use Rattle.c_grammar.specs.Ways.{can_begin, can_be, firsts, opens_type, way_number, begun_way}
 use Rattle.c_parser.specs.Operators.{prefix_of, no_prefix, is_suffix, begins_suffix}
 use Rattle.c_parser.specs.Paths.{Path, Stops, next_is}
-use Rattle.c_parser.specs.Steps.{Place, MakePrefix}
-use Rattle.c_parser.specs.Descent.{Faults, plain}
+use Rattle.c_grammar.specs.Steps.{Place, MakePrefix}
+use Rattle.c_grammar.specs.Descent.{Faults, plain}
 use Rattle.c_parser.proofs.NumberLemmas.{number_at}
 use Rattle.c_parser.proofs.Chains.{by_rule, starts, deeper, entered}
-use Rattle.c_parser.proofs.Begins.{is_same}
+use Rattle.c_grammar.proofs.Begins.{is_same}
 use Rattle.c_parser.proofs.PathLemmas.{no_word, next_word, here_path, nowhere_stop, no_word_stop, break_path}
 
 and_false : (b : Bool) → (b && false) ≡ false

@@ -3,20 +3,20 @@ use Rattle.std.proofs.Common.{◌≡◌, ℕ, ◌+◌, ◌-◌, ◌<◌, ◌≤�
 use Rattle.std.specs.Prelude.{Result, Ok, Err, IfErr, IsErrAnd}
 use Rattle.std.proofs.lemmas.Bool.{cases_lt, both_ways}
 use Rattle.std.proofs.lemmas.List.{drop_more, drop_all, length-drop}
-use Rattle.c_parser.specs.declared.words.Word.{Word}
-use Rattle.c_parser.specs.declared.words.Terminal.{Terminal}
-use Rattle.c_parser.specs.declared.words.Terminal.TheVariants.{Name}
+use Rattle.c_grammar.specs.declared.words.Word.{Word}
+use Rattle.c_grammar.specs.declared.words.Terminal.{Terminal}
+use Rattle.c_grammar.specs.declared.words.Terminal.TheVariants.{Name}
 use Rattle.c_parser.specs.declared.spot.Spot.{Spot}
 use Rattle.c_parser.specs.declared.errors.ParseError.{ParseError}
 use Rattle.c_parser.specs.declared.errors.ParseError.TheVariants.{NoMemory, SyntaxFault, DepthFault}
-use Rattle.c_parser.specs.Steps.{Value, Step, Leaf, Place, build}
-use Rattle.c_parser.specs.Grammar.{Form, Mark, Symbol, T, L, N, M, B, Here, Unless}
-use Rattle.c_parser.specs.Ways.{ways, way_at, way_number}
-use Rattle.c_parser.specs.Reading.{State, after, add, BeginWith}
-use Rattle.c_parser.specs.Descent.{Stop, Faults, Deep, Wants, plain, valued, Descent, token, deep, other, ended, here, nowhere, mark, step, unless, rule}
+use Rattle.c_grammar.specs.Steps.{Value, Step, Leaf, Place, build}
+use Rattle.c_grammar.specs.Grammar.{Form, Mark, Symbol, T, L, N, M, B, Here, Unless}
+use Rattle.c_grammar.specs.Ways.{ways, way_at, way_number}
+use Rattle.c_grammar.specs.Reading.{State, after, add, BeginWith}
+use Rattle.c_grammar.specs.Descent.{Stop, Faults, Deep, Wants, plain, valued, Descent, token, deep, other, ended, here, nowhere, mark, step, unless, rule}
 use Rattle.c_parser.specs.Paths.{state_at, Path, Leads, Stops, Breaks, next_is}
-use Rattle.c_parser.proofs.Begins.{is_same}
-use Rattle.c_parser.proofs.Picks.{terminal_is}
+use Rattle.c_grammar.proofs.Begins.{is_same}
+use Rattle.c_grammar.proofs.Picks.{terminal_is}
 
 -- what a read past the end gives
 abbrev pub no_word : Word

@@ -1,23 +1,26 @@
 -- The whole of the words.
-use Rattle.std.proofs.Common.{◌≡◌, ℕ, ◌+◌, ◌-◌, ◌<◌, ◌≤◌, Bool, true, false, cond, ◌||◌, List, [], ◌∷◌, length, get_or, drop, refl, sym, ap, subst, ◌∙◌, lit<}
+use Rattle.std.proofs.Common.{◌≡◌, ℕ, ◌+◌, ◌-◌, ◌<◌, ◌≤◌, arith, Bool, true, false, cond, ◌||◌, List, [], ◌∷◌, length, get_or, drop, refl, sym, ap, subst, ◌∙◌, lit<}
 use Rattle.std.specs.Prelude.{Result, IfErr, IsErrAnd}
 use Rattle.std.proofs.lemmas.Bool.{both_ways}
-use Rattle.std.proofs.lemmas.List.{drop_more, drop_all}
+use Rattle.std.proofs.lemmas.List.{drop_more, drop_all, length-drop}
 use Rattle.c_ast.specs.declared.program.Item.{Item}
-use Rattle.c_parser.specs.declared.words.Word.{Word}
+use Rattle.c_grammar.specs.declared.words.Word.{Word}
 use Rattle.c_parser.specs.declared.spot.Spot.{Spot}
 use Rattle.c_parser.specs.declared.spot.TheConstants.{NESTING}
 use Rattle.c_parser.specs.declared.errors.ParseError.{ParseError}
 use Rattle.c_parser.specs.declared.errors.ParseError.TheVariants.{NoMemory, SyntaxFault, DepthFault}
-use Rattle.c_parser.specs.Steps.{Items}
-use Rattle.c_parser.specs.Grammar as form
-use Rattle.c_parser.specs.Grammar.{N, B}
-use Rattle.c_parser.specs.Ways.{can_begin, way_number}
-use Rattle.c_parser.specs.Reading.{start, Nested, IsReading, IsWithin}
-use Rattle.c_parser.specs.Descent.{Accepts, Faults, Deep, Descent, accepts, left_over}
+use Rattle.c_grammar.specs.Steps.{Items}
+use Rattle.c_grammar.specs.Grammar as form
+use Rattle.c_grammar.specs.Grammar.{N, B}
+use Rattle.c_grammar.specs.Ways.{can_begin, way_number}
+use Rattle.c_grammar.specs.Reading.{start, Nested, IsReading, IsWithin}
+use Rattle.c_grammar.specs.Descent.{Accepts, Faults, Deep, Descent, accepts, left_over}
 use Rattle.c_parser.specs.Paths.{state_at, Path, Breaks}
-use Rattle.c_parser.specs.Parts.{first_spot, IsProgramOf, IsNoProgram}
-use Rattle.c_parser.proofs.Descents.{one_stop, program_reads, program_accepted}
+use Rattle.c_parser.specs.Parts.{first_spot, IsProgramOf}
+use Rattle.c_parser.specs.Programs.{IsFault}
+use Rattle.c_grammar.specs.Faults.{IsSyntaxFault, IsDepthFault}
+use Rattle.c_grammar.proofs.Descents.{program_reads}
+use Rattle.c_grammar.proofs.FaultLemmas.{syntax_fault, depth_fault}
 use Rattle.c_parser.proofs.PathLemmas.{no_word, err_out}
 use Rattle.c_parser.proofs.Chains.{by_rule, made, starts}
 
@@ -50,31 +53,28 @@ whole_program words here items past p =
     let r = program_reads NESTING words items (p.path [] [] (Accepts (Items items ∷ [])) d) in
     record { way = r.way; reading = r.reading; within = r.within }
 
-no_faults : (words : List Word) (n : ℕ) → Descent NESTING start (N form.Program ∷ []) words (Faults n)
-    → (items : List Item) (way : List Nested) → IsReading words items way → IsWithin NESTING way → ⊥
-no_faults words n d items way h low =
-    let same : Faults n ≡ Accepts (Items items ∷ []) = one_stop NESTING start (N form.Program ∷ []) words (Faults n) (Accepts (Items items ∷ [])) d (program_accepted NESTING words items way h low) in cc
+-- where the descent stops the words have their fault
+fault_at : (words : List Word) (e : ParseError) → Breaks NESTING words first_spot (N form.Program ∷ []) e → IsFault NESTING words e
+fault_at words NoMemory q = tt
+fault_at words (SyntaxFault t) q =
+    let same : length words - (length words - t) ≡ t = omega (arith, q.0) in
+    subst (IsSyntaxFault NESTING words) same (syntax_fault NESTING words (length words - t) (q.1.stops [] []))
+fault_at words (DepthFault t) q =
+    let same : length words - (length words - t) ≡ t = omega (arith, q.0) in
+    subst (IsDepthFault NESTING words) same (depth_fault NESTING words (length words - t) (q.1.stops [] []))
 
-no_deep : (words : List Word) (n : ℕ) → Descent NESTING start (N form.Program ∷ []) words (Deep n)
-    → (items : List Item) (way : List Nested) → IsReading words items way → IsWithin NESTING way → ⊥
-no_deep words n d items way h low =
-    let same : Deep n ≡ Accepts (Items items ∷ []) = one_stop NESTING start (N form.Program ∷ []) words (Deep n) (Accepts (Items items ∷ [])) d (program_accepted NESTING words items way h low) in cc
-
-none_of : (words : List Word) (e : ParseError) → Breaks NESTING words first_spot (N form.Program ∷ []) e → IsNoProgram NESTING words e
-none_of words NoMemory q = tt
-none_of words (SyntaxFault t) q = no_faults words (length words - t) (q.1.stops [] [])
-none_of words (DepthFault t) q = no_deep words (length words - t) (q.1.stops [] [])
-
-pub breaks_program : {A : Type 0} (words : List Word) (r : Result A ParseError) (e : ParseError) → IsErrAnd r (λ y. y ≡ e) → Breaks NESTING words first_spot (N form.Program ∷ []) e → IfErr r (IsNoProgram NESTING words)
-breaks_program {A} words r e h q = err_out (IsNoProgram NESTING words) r e h (none_of words e q)
+pub breaks_program : {A : Type 0} (words : List Word) (r : Result A ParseError) (e : ParseError) → IsErrAnd r (λ y. y ≡ e) → Breaks NESTING words first_spot (N form.Program ∷ []) e → IfErr r (IsFault NESTING words)
+breaks_program {A} words r e h q = err_out (IsFault NESTING words) r e h (fault_at words e q)
 
 -- words are left over
-pub no_end : (words : List Word) (here : Spot) (items : List Item) (t : ℕ) → here.at < length words → Path NESTING words first_spot (N form.Program ∷ []) here [] (Items items ∷ [])
-    → IsNoProgram NESTING words (SyntaxFault t)
-no_end words here items t below p =
+pub no_end : (words : List Word) (here : Spot) (items : List Item) → here.at < length words → Path NESTING words first_spot (N form.Program ∷ []) here [] (Items items ∷ [])
+    → IsFault NESTING words (SyntaxFault here.at)
+no_end words here items below p =
     let w = get_or words here.at no_word in
     let rest = drop (here.at + 1) words in
     let s = state_at here (Items items ∷ []) in
+    let split = drop_more words here.at no_word below in
     let d : Descent NESTING s [] (drop here.at words) (Faults (length (w ∷ rest))) =
-    subst (λ (ws : List Word). Descent NESTING s [] ws (Faults (length (w ∷ rest)))) (sym (drop_more words here.at no_word below)) (left_over s w rest) in
-    no_faults words (length (w ∷ rest)) (p.path [] [] (Faults (length (w ∷ rest))) d)
+    subst (λ (ws : List Word). Descent NESTING s [] ws (Faults (length (w ∷ rest)))) (sym split) (left_over s w rest) in
+    let same : length words - length (w ∷ rest) ≡ here.at = omega (arith, below, ap length split, length-drop here.at words) in
+    subst (IsSyntaxFault NESTING words) same (syntax_fault NESTING words (length (w ∷ rest)) (p.path [] [] (Faults (length (w ∷ rest))) d))

@@ -1,16 +1,16 @@
 -- The numbers of the ways of statements.
 use Rattle.std.proofs.Common.{◌≡◌, ℕ, Bool, true, false, cond, ◌||◌, List, [], ◌∷◌, refl, sym, ap, ◌∙◌}
 use Rattle.std.proofs.lemmas.Bool.{both_ways, cond-true, cond-false}
-use Rattle.c_parser.specs.declared.words.Word.{Word}
-use Rattle.c_parser.specs.declared.words.Terminal.{Terminal}
-use Rattle.c_parser.specs.declared.words.Terminal.TheVariants.{If, While, Do, For, Return, Break, Continue, Name, Number, Character, String, Sizeof, Minus, Star, Ampersand, Tilde, Exclamation, Open, Semicolon}
-use Rattle.c_parser.specs.Terminals.{same_terminal}
-use Rattle.c_parser.specs.Grammar as form
-use Rattle.c_parser.specs.Ways.{can_begin, way_number, begun_way}
-use Rattle.c_parser.specs.Reading.{BeginWith}
+use Rattle.c_grammar.specs.declared.words.Word.{Word}
+use Rattle.c_grammar.specs.declared.words.Terminal.{Terminal}
+use Rattle.c_grammar.specs.declared.words.Terminal.TheVariants.{If, While, Do, For, Return, Break, Continue, Name, Number, Character, String, Sizeof, Minus, Star, Ampersand, Tilde, Exclamation, Open, Semicolon}
+use Rattle.c_grammar.specs.Terminals.{same_terminal}
+use Rattle.c_grammar.specs.Grammar as form
+use Rattle.c_grammar.specs.Ways.{can_begin, way_number, begun_way}
+use Rattle.c_grammar.specs.Reading.{BeginWith}
 use Rattle.c_parser.specs.Operators.{is_evaluation, begins_evaluation, begins_item}
 use Rattle.c_parser.specs.Paths.{next_is}
-use Rattle.c_parser.proofs.Begins.{is_same}
+use Rattle.c_grammar.proofs.Begins.{is_same}
 
 zero_either : (b : Bool) (n : ℕ) → n ≡ cond b 0 0 → n ≡ 0
 zero_either true n e = e

@@ -1,9 +1,9 @@
 -- The numbers of the ways of a struct.
 use Rattle.std.proofs.Common.{◌≡◌, ℕ, Bool, true, false, cond, ◌||◌, List, [], ◌∷◌, refl, ap, ◌∙◌}
 use Rattle.std.proofs.lemmas.Bool.{both_ways}
-use Rattle.c_parser.specs.declared.words.Word.{Word}
-use Rattle.c_parser.specs.Grammar as form
-use Rattle.c_parser.specs.Ways.{can_begin, way_number}
+use Rattle.c_grammar.specs.declared.words.Word.{Word}
+use Rattle.c_grammar.specs.Grammar as form
+use Rattle.c_grammar.specs.Ways.{can_begin, way_number}
 
 zero_either : (b : Bool) (n : ℕ) → n ≡ cond b 0 0 → n ≡ 0
 zero_either true n e = e

@@ -5,7 +5,7 @@ use Rattle.c_lexer.specs.declared.tokens.Token.{Token}
 use Rattle.c_lexer.specs.declared.tokens.TokenKind.{TokenKind}
 use Rattle.c_lexer.specs.declared.tokens.TokenKind.TheVariants as kind
 use Rattle.c_lexer.specs.Texts.{text_of}
-use Rattle.c_parser.specs.declared.words.Word.{Word}
+use Rattle.c_grammar.specs.declared.words.Word.{Word}
 use Rattle.c_parser.specs.Programs.{is_string, names_after, names_of, word_of, words_after, words_of_source, Strings, none, string, skip}
 use Rattle.c_parser.specs.Words.{Adds, names_with, Told}
 use Rattle.c_parser.proofs.NameLemmas.{word_kept}

@@ -2,13 +2,13 @@
 use Rattle.std.proofs.Common.{◌≡◌, ℕ, ◌+◌, ◌<◌, Bool, true, false, ◌||◌, cond, List, [], ◌∷◌, ◌++◌, length, get_or, drop, refl, sym, subst, lit<}
 use Rattle.c_ast.specs.declared.program.Base.{Base}
 use Rattle.c_ast.specs.declared.program.Star.{Star}
-use Rattle.c_parser.specs.declared.words.Word.{Word}
-use Rattle.c_parser.specs.declared.words.Terminal.TheVariants as terminal
+use Rattle.c_grammar.specs.declared.words.Word.{Word}
+use Rattle.c_grammar.specs.declared.words.Terminal.TheVariants as terminal
 use Rattle.c_parser.specs.declared.spot.Spot.{Spot}
 use Rattle.c_parser.specs.declared.spot.TheConstants.{NESTING}
-use Rattle.c_parser.specs.Steps.{Place, Private, OfBase, OfSpecifier, Stars, Give, Push, MakeSpecifier}
-use Rattle.c_parser.specs.Grammar.{Specifier, PerhapsPrivate, BaseType, Pointer, MoreStars, EndStar, EndStars, Symbol, T, N, M, B, Here}
-use Rattle.c_parser.specs.Ways.{way_number}
+use Rattle.c_grammar.specs.Steps.{Place, Private, OfBase, OfSpecifier, Stars, Give, Push, MakeSpecifier}
+use Rattle.c_grammar.specs.Grammar.{Specifier, PerhapsPrivate, BaseType, Pointer, MoreStars, CountStar, ForgetStars, Symbol, T, N, M, B, Here}
+use Rattle.c_grammar.specs.Ways.{way_number}
 use Rattle.c_parser.specs.Paths.{Path, Leads, next_is}
 use Rattle.c_parser.proofs.NumberLemmas.{number_else}
 use Rattle.c_parser.proofs.PathLemmas.{no_word, begin_path, rule_path, pair_path, build_path, mark_path, here_path}
@@ -65,41 +65,41 @@ pointer_number : (ws : List Word) → way_number Pointer ws ≡ 0
 pointer_number [] = refl
 pointer_number (w ∷ ws) = zero_either _ _ refl
 
-pub pointer_begin : (words : List Word) (spot : Spot) → Path NESTING words spot (N Pointer ∷ []) spot (N MoreStars ∷ M EndStars ∷ []) (Stars [] ∷ [])
+pub pointer_begin : (words : List Word) (spot : Spot) → Path NESTING words spot (N Pointer ∷ []) spot (N MoreStars ∷ M ForgetStars ∷ []) (Stars [] ∷ [])
 pointer_begin words spot =
-    build_path NESTING words spot (N Pointer ∷ []) spot (Give (Stars [])) (N MoreStars ∷ M EndStars ∷ []) [] (Stars [] ∷ []) (λ built. refl)
+    build_path NESTING words spot (N Pointer ∷ []) spot (Give (Stars [])) (N MoreStars ∷ M ForgetStars ∷ []) [] (Stars [] ∷ []) (λ built. refl)
     (rule_path NESTING words spot (N Pointer ∷ []) spot Pointer [] [] 0 (pointer_number (drop spot.at words)) (lit< tt) (begin_path NESTING words spot (N Pointer ∷ [])))
 
 abbrev pub after_star : List Symbol
-after_star = M EndStar ∷ N PerhapsPrivate ∷ B Push ∷ N MoreStars ∷ M EndStars ∷ []
+after_star = M CountStar ∷ N PerhapsPrivate ∷ B Push ∷ N MoreStars ∷ M ForgetStars ∷ []
 
 pub star_next : (words : List Word) (spot at : Spot) (stars : List Star) → next_is (drop at.at words) terminal.Star ≡ true
-    → Path NESTING words spot (N Pointer ∷ []) at (N MoreStars ∷ M EndStars ∷ []) (Stars stars ∷ []) → Path NESTING words spot (N Pointer ∷ []) at (T terminal.Star ∷ after_star) (Stars stars ∷ [])
+    → Path NESTING words spot (N Pointer ∷ []) at (N MoreStars ∷ M ForgetStars ∷ []) (Stars stars ∷ []) → Path NESTING words spot (N Pointer ∷ []) at (T terminal.Star ∷ after_star) (Stars stars ∷ [])
 star_next words spot at stars h p =
-    rule_path NESTING words spot (N Pointer ∷ []) at MoreStars (M EndStars ∷ []) (Stars stars ∷ []) 0
+    rule_path NESTING words spot (N Pointer ∷ []) at MoreStars (M ForgetStars ∷ []) (Stars stars ∷ []) 0
     (number_else MoreStars terminal.Star (λ w ws. refl) refl (drop at.at words) true h) (lit< tt) p
 
 pub star_marked : (words : List Word) (spot at behind marked : Spot) (stars : List Star) → next_is (drop at.at words) terminal.Star ≡ true
-    → Path NESTING words spot (N Pointer ∷ []) at (N MoreStars ∷ M EndStars ∷ []) (Stars stars ∷ []) → Leads NESTING words at (T terminal.Star ∷ []) behind [] → marked ≡ record behind { stars = behind.stars + 1 }
-    → Path NESTING words spot (N Pointer ∷ []) marked (N PerhapsPrivate ∷ B Push ∷ N MoreStars ∷ M EndStars ∷ []) (Stars stars ∷ [])
+    → Path NESTING words spot (N Pointer ∷ []) at (N MoreStars ∷ M ForgetStars ∷ []) (Stars stars ∷ []) → Leads NESTING words at (T terminal.Star ∷ []) behind [] → marked ≡ record behind { stars = behind.stars + 1 }
+    → Path NESTING words spot (N Pointer ∷ []) marked (N PerhapsPrivate ∷ B Push ∷ N MoreStars ∷ M ForgetStars ∷ []) (Stars stars ∷ [])
 star_marked words spot at behind marked stars h p taken is =
-    subst (λ (s : Spot). Path NESTING words spot (N Pointer ∷ []) s (N PerhapsPrivate ∷ B Push ∷ N MoreStars ∷ M EndStars ∷ []) (Stars stars ∷ [])) (sym is)
-    (mark_path NESTING words spot (N Pointer ∷ []) behind EndStar (N PerhapsPrivate ∷ B Push ∷ N MoreStars ∷ M EndStars ∷ []) (Stars stars ∷ [])
+    subst (λ (s : Spot). Path NESTING words spot (N Pointer ∷ []) s (N PerhapsPrivate ∷ B Push ∷ N MoreStars ∷ M ForgetStars ∷ []) (Stars stars ∷ [])) (sym is)
+    (mark_path NESTING words spot (N Pointer ∷ []) behind CountStar (N PerhapsPrivate ∷ B Push ∷ N MoreStars ∷ M ForgetStars ∷ []) (Stars stars ∷ [])
     (record behind { stars = behind.stars + 1 }) refl (λ vs. refl)
     (pair_path NESTING words spot (N Pointer ∷ []) at (T terminal.Star ∷ []) after_star (Stars stars ∷ []) behind [] (star_next words spot at stars h p) taken))
 
 pub star_pushed : (words : List Word) (spot marked to : Spot) (stars : List Star) (b : Bool)
-    → Path NESTING words spot (N Pointer ∷ []) marked (N PerhapsPrivate ∷ B Push ∷ N MoreStars ∷ M EndStars ∷ []) (Stars stars ∷ [])
+    → Path NESTING words spot (N Pointer ∷ []) marked (N PerhapsPrivate ∷ B Push ∷ N MoreStars ∷ M ForgetStars ∷ []) (Stars stars ∷ [])
     → Leads NESTING words marked (N PerhapsPrivate ∷ []) to (Private b ∷ [])
-    → Path NESTING words spot (N Pointer ∷ []) to (N MoreStars ∷ M EndStars ∷ []) (Stars (stars ++ record { is_private = b } ∷ []) ∷ [])
+    → Path NESTING words spot (N Pointer ∷ []) to (N MoreStars ∷ M ForgetStars ∷ []) (Stars (stars ++ record { is_private = b } ∷ []) ∷ [])
 star_pushed words spot marked to stars b p leads =
-    build_path NESTING words spot (N Pointer ∷ []) to Push (N MoreStars ∷ M EndStars ∷ []) (Private b ∷ Stars stars ∷ []) (Stars (stars ++ record { is_private = b } ∷ []) ∷ []) (λ built. refl)
-    (pair_path NESTING words spot (N Pointer ∷ []) marked (N PerhapsPrivate ∷ []) (B Push ∷ N MoreStars ∷ M EndStars ∷ []) (Stars stars ∷ []) to (Private b ∷ []) p leads)
+    build_path NESTING words spot (N Pointer ∷ []) to Push (N MoreStars ∷ M ForgetStars ∷ []) (Private b ∷ Stars stars ∷ []) (Stars (stars ++ record { is_private = b } ∷ []) ∷ []) (λ built. refl)
+    (pair_path NESTING words spot (N Pointer ∷ []) marked (N PerhapsPrivate ∷ []) (B Push ∷ N MoreStars ∷ M ForgetStars ∷ []) (Stars stars ∷ []) to (Private b ∷ []) p leads)
 
 pub pointer_end : (words : List Word) (spot at : Spot) (stars : List Star) → next_is (drop at.at words) terminal.Star ≡ false
-    → Path NESTING words spot (N Pointer ∷ []) at (N MoreStars ∷ M EndStars ∷ []) (Stars stars ∷ [])
+    → Path NESTING words spot (N Pointer ∷ []) at (N MoreStars ∷ M ForgetStars ∷ []) (Stars stars ∷ [])
     → Leads NESTING words spot (N Pointer ∷ []) (record at { stars = 0 }) (Stars stars ∷ [])
 pointer_end words spot at stars h p =
-    mark_path NESTING words spot (N Pointer ∷ []) at EndStars [] (Stars stars ∷ []) (record at { stars = 0 }) refl (λ vs. refl)
-    (rule_path NESTING words spot (N Pointer ∷ []) at MoreStars (M EndStars ∷ []) (Stars stars ∷ []) 1
+    mark_path NESTING words spot (N Pointer ∷ []) at ForgetStars [] (Stars stars ∷ []) (record at { stars = 0 }) refl (λ vs. refl)
+    (rule_path NESTING words spot (N Pointer ∷ []) at MoreStars (M ForgetStars ∷ []) (Stars stars ∷ []) 1
     (number_else MoreStars terminal.Star (λ w ws. refl) refl (drop at.at words) false h) (lit< tt) p)

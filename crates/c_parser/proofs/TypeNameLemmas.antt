@@ -2,19 +2,19 @@
 use Rattle.std.proofs.Common.{◌≡◌, ℕ, ◌+◌, ◌-◌, Bool, true, false, ◌&&◌, cond, List, [], ◌∷◌, ◌++◌, get_or, drop, refl, sym, ap, ◌∙◌, lit<}
 use Rattle.std.proofs.lemmas.Bool.{and_from, both_ways, cond-true, cond-false}
 use Rattle.c_ast.specs.declared.program.TypeName.{TypeName}
-use Rattle.c_parser.specs.declared.words.Word.{Word}
-use Rattle.c_parser.specs.declared.words.Terminal.TheVariants as terminal
-use Rattle.c_parser.specs.declared.words.Terminal.TheVariants.{Void, Close}
+use Rattle.c_grammar.specs.declared.words.Word.{Word}
+use Rattle.c_grammar.specs.declared.words.Terminal.TheVariants as terminal
+use Rattle.c_grammar.specs.declared.words.Terminal.TheVariants.{Void, Close}
 use Rattle.c_parser.specs.declared.spot.Spot.{Spot}
 use Rattle.c_parser.specs.declared.spot.TheConstants.{NESTING}
-use Rattle.c_parser.specs.Terminals.{same_terminal}
-use Rattle.c_parser.specs.Steps.{OfType, Types, Give, Push, First}
-use Rattle.c_parser.specs.Grammar.{Form, ParameterTypes, MoreTypes, In, Out, Symbol, T, N, M, B, Unless}
-use Rattle.c_parser.specs.Grammar as form
-use Rattle.c_parser.specs.Ways.{way_number, is_bare_void, can_begin}
-use Rattle.c_parser.specs.Reading.{BeginWith}
+use Rattle.c_grammar.specs.Terminals.{same_terminal}
+use Rattle.c_grammar.specs.Steps.{OfType, Types, Give, Push, First}
+use Rattle.c_grammar.specs.Grammar.{Form, ParameterTypes, MoreTypes, In, Out, Symbol, T, N, M, B, Unless}
+use Rattle.c_grammar.specs.Grammar as form
+use Rattle.c_grammar.specs.Ways.{way_number, is_bare_void, can_begin}
+use Rattle.c_grammar.specs.Reading.{BeginWith}
 use Rattle.c_parser.specs.Paths.{state_at, Path, Leads, next_is}
-use Rattle.c_parser.proofs.Begins.{is_same}
+use Rattle.c_grammar.proofs.Begins.{is_same}
 use Rattle.c_parser.proofs.NumberLemmas.{number_else}
 use Rattle.c_parser.proofs.PathLemmas.{no_word, next_word, begin_path, rule_path, pair_path, build_path, mark_path, unless_path}
 

@@ -1,10 +1,4 @@
--- The grammar: its terminals, what a rule builds, the rules, and the readings of words.
-pub mod Terminals
-pub mod Steps
-pub mod Grammar
-pub mod Reading
-pub mod Ways
-pub mod Descent
+-- The program of a source, and what the parser's functions say of the descent.
 pub mod Programs
 pub mod Paths
 pub mod Operators

@@ -4,14 +4,14 @@ use Rattle.c_ast.specs.declared.program.InfixOp.{InfixOp}
 use Rattle.c_ast.specs.declared.program.InfixOp.TheVariants as infix_op
 use Rattle.c_ast.specs.declared.program.PrefixOp.{PrefixOp}
 use Rattle.c_ast.specs.declared.program.PrefixOp.TheVariants.{Negate, Complement, IsZero, Follow, Address}
-use Rattle.c_parser.specs.declared.words.Word.{Word}
-use Rattle.c_parser.specs.declared.words.Terminal.{Terminal}
-use Rattle.c_parser.specs.declared.words.Terminal.TheVariants.{Plus, Minus, Star, Slash, Percent, Ampersand, Bar, Caret, Tilde, Exclamation, Less, Greater, ShiftLeft, ShiftRight, LessEqual, GreaterEqual, EqualEqual, NotEqual, Both, Either, OpenBracket, Open, Dot, Arrow, Name, Number, Character, String, Sizeof, Semicolon, Equals, Comma}
+use Rattle.c_grammar.specs.declared.words.Word.{Word}
+use Rattle.c_grammar.specs.declared.words.Terminal.{Terminal}
+use Rattle.c_grammar.specs.declared.words.Terminal.TheVariants.{Plus, Minus, Star, Slash, Percent, Ampersand, Bar, Caret, Tilde, Exclamation, Less, Greater, ShiftLeft, ShiftRight, LessEqual, GreaterEqual, EqualEqual, NotEqual, Both, Either, OpenBracket, Open, Dot, Arrow, Name, Number, Character, String, Sizeof, Semicolon, Equals, Comma}
 use Rattle.c_parser.specs.declared.operators.Operator.{Operator}
 use Rattle.c_parser.specs.Paths.{next_is}
-use Rattle.c_parser.specs.Ways.{can_begin}
-use Rattle.c_parser.specs.Grammar as form
-use Rattle.c_parser.specs.Grammar.{Level, EitherLevel, BothLevel, OrLevel, XorLevel, AndLevel, EqualLevel, OrderLevel, ShiftLevel, SumLevel, ProductLevel, Operands, Symbol, N}
+use Rattle.c_grammar.specs.Ways.{can_begin}
+use Rattle.c_grammar.specs.Grammar as form
+use Rattle.c_grammar.specs.Grammar.{Level, EitherLevel, BothLevel, OrLevel, XorLevel, AndLevel, EqualLevel, OrderLevel, ShiftLevel, SumLevel, ProductLevel, Operands, Symbol, N}
 
 -- the level of an operator's sign, and 10 where it is none
 abbrev pub level_of : Terminal → ℕ

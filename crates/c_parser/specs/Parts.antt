@@ -2,15 +2,14 @@
 use Rattle.std.specs.Prelude.{ℕ, ◌≡◌, ◌+◌, ◌≤◌, List, [], ◌∷◌, ◌++◌, length}
 use Rattle.c_ast.specs.declared.program.BlockItem.{BlockItem}
 use Rattle.c_ast.specs.declared.program.Item.{Item}
-use Rattle.c_parser.specs.declared.errors.ParseError.TheVariants.{NoMemory, SyntaxFault, DepthFault}
-use Rattle.c_parser.specs.Reading.{Nested, IsReading, IsWithin}
-use Rattle.c_parser.specs.declared.words.Word.{Word}
+use Rattle.c_grammar.specs.Reading.{Nested, IsReading, IsWithin}
+use Rattle.c_grammar.specs.declared.words.Word.{Word}
 use Rattle.c_parser.specs.declared.spot.Spot.{Spot}
 use Rattle.c_parser.specs.declared.spot.TheConstants.{NESTING}
 use Rattle.c_parser.specs.declared.errors.ParseError.{ParseError}
-use Rattle.c_parser.specs.Steps.{Value, BlockItems}
-use Rattle.c_parser.specs.Grammar.{Symbol, N}
-use Rattle.c_parser.specs.Grammar as form
+use Rattle.c_grammar.specs.Steps.{Value, BlockItems}
+use Rattle.c_grammar.specs.Grammar.{Symbol, N}
+use Rattle.c_grammar.specs.Grammar as form
 use Rattle.c_parser.specs.Paths.{Path, Leads, Breaks}
 
 -- a spot in which a part of an expression may begin
@@ -75,9 +74,3 @@ pub record IsProgramOf (limit : ℕ) (words : List Word) (items : List Item) : T
   pub way : List Nested
   pub reading : IsReading words items way
   pub within : IsWithin limit way
-
--- the words are no such program; want of memory says nothing
-abbrev pub IsNoProgram : ℕ → List Word → ParseError → Type 0
-IsNoProgram limit words NoMemory = Unit {0}
-IsNoProgram limit words (SyntaxFault token) = (items : List Item) (way : List Nested) → IsReading words items way → IsWithin limit way → ⊥
-IsNoProgram limit words (DepthFault token) = (items : List Item) (way : List Nested) → IsReading words items way → IsWithin limit way → ⊥

@@ -1,18 +1,18 @@
 -- What the parser's functions say of the descent. No public contract cites it.
 use Rattle.std.specs.Prelude.{◌≡◌, ℕ, ◌-◌, ◌*◌, ◌^◌, ◌<◌, ◌≤◌, Bool, false, List, [], ◌∷◌, ◌++◌, length, drop}
 use Rattle.std.specs.List.{All}
-use Rattle.c_parser.specs.declared.words.Word.{Word}
-use Rattle.c_parser.specs.declared.words.Terminal.{Terminal}
-use Rattle.c_parser.specs.declared.words.Terminal.TheVariants.{Name, String, Character}
+use Rattle.c_grammar.specs.declared.words.Word.{Word}
+use Rattle.c_grammar.specs.declared.words.Terminal.{Terminal}
+use Rattle.c_grammar.specs.declared.words.Terminal.TheVariants.{Name, String, Character}
 use Rattle.c_parser.specs.declared.spot.Spot.{Spot}
 use Rattle.c_parser.specs.declared.spot.TheConstants.{NESTING}
 use Rattle.c_parser.specs.declared.errors.ParseError.{ParseError}
 use Rattle.c_parser.specs.declared.errors.ParseError.TheVariants.{NoMemory, SyntaxFault, DepthFault}
-use Rattle.c_parser.specs.Terminals.{same_terminal}
-use Rattle.c_parser.specs.Steps.{Value}
-use Rattle.c_parser.specs.Grammar.{Form, Symbol, N}
-use Rattle.c_parser.specs.Reading.{State}
-use Rattle.c_parser.specs.Descent.{Stop, Faults, Deep, Descent}
+use Rattle.c_grammar.specs.Terminals.{same_terminal}
+use Rattle.c_grammar.specs.Steps.{Value}
+use Rattle.c_grammar.specs.Grammar.{Form, Symbol, N}
+use Rattle.c_grammar.specs.Reading.{State}
+use Rattle.c_grammar.specs.Descent.{Stop, Faults, Deep, Descent}
 
 abbrev pub state_at : Spot → List Value → State
 state_at spot built = record { depth = spot.depth; ended = spot.ended; stars = spot.stars; built = built }

@@ -8,11 +8,12 @@ use Rattle.c_lexer.specs.declared.tokens.TokenKind.TheVariants as kind
 use Rattle.c_lexer.specs.Spelling.{IsStringText}
 use Rattle.c_lexer.specs.Texts.{text_of}
 use Rattle.c_ast.specs.declared.program.Program.{Program}
-use Rattle.c_parser.specs.declared.words.Word.{Word}
+use Rattle.c_grammar.specs.declared.words.Word.{Word}
 use Rattle.c_parser.specs.declared.errors.ParseError.{ParseError}
 use Rattle.c_parser.specs.declared.errors.ParseError.TheVariants.{NoMemory, SyntaxFault, DepthFault}
-use Rattle.c_parser.specs.Terminals.{terminal_of}
-use Rattle.c_parser.specs.Reading.{Nested, IsReading, IsWithin}
+use Rattle.c_grammar.specs.Terminals.{terminal_of}
+use Rattle.c_grammar.specs.Reading.{Nested, IsReading, IsWithin}
+use Rattle.c_grammar.specs.Faults.{IsSyntaxFault, IsDepthFault}
 
 abbrev pub is_name : TokenKind → Bool
 is_name kind.Name = true
@@ -77,8 +78,8 @@ pub record IsProgram (source : List ℕ) (tokens : List Token) (limit : ℕ) (pr
   pub reading : IsReading (words_of_source source tokens) program.items way
   pub within : IsWithin limit way
 
--- the tokens are no such program; want of memory says nothing
-abbrev pub IsRefusal : List ℕ → List Token → ℕ → ParseError → Type 0
-IsRefusal source tokens limit NoMemory = Unit {0}
-IsRefusal source tokens limit (SyntaxFault token) = (program : Program) → ¬ IsProgram source tokens limit program
-IsRefusal source tokens limit (DepthFault token) = (program : Program) → ¬ IsProgram source tokens limit program
+-- the words have this fault; want of memory says nothing
+abbrev pub IsFault : ℕ → List Word → ParseError → Type 0
+IsFault limit words NoMemory = Unit {0}
+IsFault limit words (SyntaxFault token) = IsSyntaxFault limit words token
+IsFault limit words (DepthFault token) = IsDepthFault limit words token

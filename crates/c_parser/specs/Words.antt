@@ -4,7 +4,7 @@ use Rattle.c_lexer.specs.declared.tokens.Token.{Token}
 use Rattle.c_lexer.specs.declared.tokens.TokenKind.{TokenKind}
 use Rattle.c_lexer.specs.declared.tokens.TokenKind.TheVariants as kind
 use Rattle.c_lexer.specs.Spelling.{IsStringText}
-use Rattle.c_parser.specs.declared.words.Word.{Word}
+use Rattle.c_grammar.specs.declared.words.Word.{Word}
 use Rattle.c_parser.specs.Programs.{is_name, with_name, names_after, names_of, number_in, words_after, words_of_source, Strings}
 
 -- the names after a text of this kind

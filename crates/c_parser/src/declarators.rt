@@ -1,16 +1,16 @@
 //! Declared names.
 
-ghost use Rattle.c_parser.specs.Grammar as form;
-ghost use Rattle.c_parser.specs.Grammar.{N, PerhapsLength};
+ghost use Rattle.c_grammar.specs.Grammar as form;
+ghost use Rattle.c_grammar.specs.Grammar.{N, PerhapsLength};
 ghost use Rattle.c_parser.specs.Paths.{Breaks, IsReady, Parses};
-ghost use Rattle.c_parser.specs.Steps.{OfDeclarator, OfParameter, OfShape};
+ghost use Rattle.c_grammar.specs.Steps.{OfDeclarator, OfParameter, OfShape};
 ghost use Rattle.std.specs.Prelude.{◌≡◌, [], ◌∷◌, IfErr, IfOk};
 
 use crate::errors::ParseError;
 use crate::spot::{NESTING, Spot, next_is, take};
 use crate::type_names::parameter_types;
 use crate::types::{perhaps_private, pointer, specifier};
-use crate::words::{Terminal, Word};
+use c_grammar::{Terminal, Word};
 use c_ast::program::{Declarator, Parameter, Shape};
 use std::alloc::Global;
 

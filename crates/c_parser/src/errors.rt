@@ -12,10 +12,11 @@ pub enum ParseError {
     /// Memory was refused. With ample memory it isn't.
     #[error("no memory")]
     NoMemory,
-    /// The number of the first token that can't go on a program, and of tokens where the end is missing.
+    /// The number, from 0, of the first token with which no program goes on. Where more tokens are needed, the
+    /// number of all tokens.
     #[error("no program at token {token}")]
     SyntaxFault { token: u32 },
-    /// The number of the first token that is nested above 200.
+    /// The number, from 0, of the first token that is nested above 200.
     #[error("nested too deep at token {token}")]
     DepthFault { token: u32 },
 }

@@ -1,14 +1,14 @@
 //! Expressions.
 
-ghost use Rattle.c_parser.specs.Grammar as form;
-ghost use Rattle.c_parser.specs.Grammar.{AfterUnary, B, Ends, Here, In, L, Left, M, N, Out, T, operand, prefix};
+ghost use Rattle.c_grammar.specs.Grammar as form;
+ghost use Rattle.c_grammar.specs.Grammar.{AfterUnary, B, CountOperator, Here, In, L, Left, M, N, Out, T, operand, prefix};
 ghost use Rattle.c_parser.specs.Operators.{begins_suffix, level_at, operands_between, prefix_of};
 ghost use Rattle.c_parser.specs.Parts.{Halts, IsShallow, Reads, Turns};
 ghost use Rattle.c_parser.specs.Paths.{Breaks, IsReady, next_is};
-ghost use Rattle.c_parser.specs.Steps.{Arguments, MakeArrow, MakeAssign, MakeBracket, MakeCall, MakeChoice, MakeDot, MakeIndex, MakeInfix, MakeSizeof, OfExpression};
-ghost use Rattle.c_parser.specs.Ways.{typed_operand};
+ghost use Rattle.c_grammar.specs.Steps.{Arguments, MakeArrow, MakeAssign, MakeBracket, MakeCall, MakeChoice, MakeDot, MakeIndex, MakeInfix, MakeSizeof, OfExpression};
+ghost use Rattle.c_grammar.specs.Ways.{typed_operand};
 ghost use Rattle.c_parser.specs.declared.errors.ParseError.TheVariants.{NoMemory};
-ghost use Rattle.c_parser.specs.declared.words.Terminal.TheVariants as terminal;
+ghost use Rattle.c_grammar.specs.declared.words.Terminal.TheVariants as terminal;
 ghost use Rattle.std.specs.Prelude.{◌≡◌, ◌<◌, ◌≤◌, ◌+◌, false, true, [], ◌∷◌, drop, IfErr, IfOk};
 
 use crate::errors::ParseError;
@@ -18,7 +18,7 @@ use crate::operators::{
 };
 use crate::spot::{NESTING, Spot, fault, next_is, take, take_here};
 use crate::type_names::type_name;
-use crate::words::{Terminal, Word};
+use c_grammar::{Terminal, Word};
 use c_ast::program::{Expression, ExpressionKind, PrefixOp};
 use c_ast::{Boxed, Items};
 use std::alloc::Global;
@@ -148,9 +148,9 @@ fn index(
 ) -> Result<(Placed, Spot), ParseError>
     requires ready { IsReady words.now spot }
     requires shallow { IsShallow spot }
-    ensures read { IfOk result (λ r. Turns words.now spot (λ back. T terminal.OpenBracket ∷ N form.Expression ∷ T terminal.CloseBracket ∷ M Ends ∷ B MakeIndex ∷ back) (OfExpression left.place left.expression) r.1 (λ back. back) (OfExpression r.0.place r.0.expression)) }
+    ensures read { IfOk result (λ r. Turns words.now spot (λ back. T terminal.OpenBracket ∷ N form.Expression ∷ T terminal.CloseBracket ∷ M CountOperator ∷ B MakeIndex ∷ back) (OfExpression left.place left.expression) r.1 (λ back. back) (OfExpression r.0.place r.0.expression)) }
     ensures on { IfOk result (λ r. spot.at < r.1.at) }
-    ensures refused { IfErr result (Halts words.now spot (λ back. T terminal.OpenBracket ∷ N form.Expression ∷ T terminal.CloseBracket ∷ M Ends ∷ B MakeIndex ∷ back) (OfExpression left.place left.expression)) }
+    ensures refused { IfErr result (Halts words.now spot (λ back. T terminal.OpenBracket ∷ N form.Expression ∷ T terminal.CloseBracket ∷ M CountOperator ∷ B MakeIndex ∷ back) (OfExpression left.place left.expression)) }
 {
     let (_, one) = take(words, spot, Terminal::OpenBracket)?;
     let (inner, two) = expression(alloc, words, one)?;
@@ -177,9 +177,9 @@ fn call(
 ) -> Result<(Placed, Spot), ParseError>
     requires ready { IsReady words.now spot }
     requires shallow { IsShallow spot }
-    ensures read { IfOk result (λ r. Turns words.now spot (λ back. T terminal.Open ∷ N form.Arguments ∷ T terminal.Close ∷ M Ends ∷ B MakeCall ∷ back) (OfExpression left.place left.expression) r.1 (λ back. back) (OfExpression r.0.place r.0.expression)) }
+    ensures read { IfOk result (λ r. Turns words.now spot (λ back. T terminal.Open ∷ N form.Arguments ∷ T terminal.Close ∷ M CountOperator ∷ B MakeCall ∷ back) (OfExpression left.place left.expression) r.1 (λ back. back) (OfExpression r.0.place r.0.expression)) }
     ensures on { IfOk result (λ r. spot.at < r.1.at) }
-    ensures refused { IfErr result (Halts words.now spot (λ back. T terminal.Open ∷ N form.Arguments ∷ T terminal.Close ∷ M Ends ∷ B MakeCall ∷ back) (OfExpression left.place left.expression)) }
+    ensures refused { IfErr result (Halts words.now spot (λ back. T terminal.Open ∷ N form.Arguments ∷ T terminal.Close ∷ M CountOperator ∷ B MakeCall ∷ back) (OfExpression left.place left.expression)) }
 {
     let (_, one) = take(words, spot, Terminal::Open)?;
     let (arguments, two) = arguments(alloc, words, one)?;
@@ -204,9 +204,9 @@ fn member(
 ) -> Result<(Placed, Spot), ParseError>
     requires ready { IsReady words.now spot }
     requires shallow { IsShallow spot }
-    ensures read { IfOk result (λ r. Turns words.now spot (λ back. T terminal.Dot ∷ L terminal.Name ∷ M Ends ∷ B MakeDot ∷ back) (OfExpression left.place left.expression) r.1 (λ back. back) (OfExpression r.0.place r.0.expression)) }
+    ensures read { IfOk result (λ r. Turns words.now spot (λ back. T terminal.Dot ∷ L terminal.Name ∷ M CountOperator ∷ B MakeDot ∷ back) (OfExpression left.place left.expression) r.1 (λ back. back) (OfExpression r.0.place r.0.expression)) }
     ensures on { IfOk result (λ r. spot.at < r.1.at) }
-    ensures refused { IfErr result (Halts words.now spot (λ back. T terminal.Dot ∷ L terminal.Name ∷ M Ends ∷ B MakeDot ∷ back) (OfExpression left.place left.expression)) }
+    ensures refused { IfErr result (Halts words.now spot (λ back. T terminal.Dot ∷ L terminal.Name ∷ M CountOperator ∷ B MakeDot ∷ back) (OfExpression left.place left.expression)) }
 {
     let (_, one) = take(words, spot, Terminal::Dot)?;
     let (word, two) = take(words, one, Terminal::Name)?;
@@ -234,9 +234,9 @@ fn arrow(
 ) -> Result<(Placed, Spot), ParseError>
     requires ready { IsReady words.now spot }
     requires shallow { IsShallow spot }
-    ensures read { IfOk result (λ r. Turns words.now spot (λ back. T terminal.Arrow ∷ L terminal.Name ∷ M Ends ∷ B MakeArrow ∷ back) (OfExpression left.place left.expression) r.1 (λ back. back) (OfExpression r.0.place r.0.expression)) }
+    ensures read { IfOk result (λ r. Turns words.now spot (λ back. T terminal.Arrow ∷ L terminal.Name ∷ M CountOperator ∷ B MakeArrow ∷ back) (OfExpression left.place left.expression) r.1 (λ back. back) (OfExpression r.0.place r.0.expression)) }
     ensures on { IfOk result (λ r. spot.at < r.1.at) }
-    ensures refused { IfErr result (Halts words.now spot (λ back. T terminal.Arrow ∷ L terminal.Name ∷ M Ends ∷ B MakeArrow ∷ back) (OfExpression left.place left.expression)) }
+    ensures refused { IfErr result (Halts words.now spot (λ back. T terminal.Arrow ∷ L terminal.Name ∷ M CountOperator ∷ B MakeArrow ∷ back) (OfExpression left.place left.expression)) }
 {
     let (_, one) = take(words, spot, Terminal::Arrow)?;
     let (word, two) = take(words, one, Terminal::Name)?;
@@ -455,9 +455,9 @@ fn infix(
     requires ready { IsReady words.now spot }
     requires shallow { IsShallow spot }
     requires level { operator.level < 10 }
-    ensures read { IfOk result (λ r. Turns words.now spot (λ back. T operator.sign ∷ M Ends ∷ N (operand (level_at operator.level)) ∷ B (MakeInfix operator.op) ∷ back) (OfExpression left.place left.expression) r.1 (λ back. back) (OfExpression r.0.place r.0.expression)) }
+    ensures read { IfOk result (λ r. Turns words.now spot (λ back. T operator.sign ∷ M CountOperator ∷ N (operand (level_at operator.level)) ∷ B (MakeInfix operator.op) ∷ back) (OfExpression left.place left.expression) r.1 (λ back. back) (OfExpression r.0.place r.0.expression)) }
     ensures on { IfOk result (λ r. spot.at < r.1.at) }
-    ensures refused { IfErr result (Halts words.now spot (λ back. T operator.sign ∷ M Ends ∷ N (operand (level_at operator.level)) ∷ B (MakeInfix operator.op) ∷ back) (OfExpression left.place left.expression)) }
+    ensures refused { IfErr result (Halts words.now spot (λ back. T operator.sign ∷ M CountOperator ∷ N (operand (level_at operator.level)) ∷ B (MakeInfix operator.op) ∷ back) (OfExpression left.place left.expression)) }
 {
     let op = operator.op;
     let (_, one) = take(words, spot, operator.sign)?;

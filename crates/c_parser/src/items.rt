@@ -1,12 +1,12 @@
 //! What stands at the top of a source.
 
-ghost use Rattle.c_parser.specs.Grammar as form;
-ghost use Rattle.c_parser.specs.Grammar.{AfterName, AfterObject, AfterParameters, AfterStars, B, L, Left, N, T};
+ghost use Rattle.c_grammar.specs.Grammar as form;
+ghost use Rattle.c_grammar.specs.Grammar.{AfterName, AfterObject, AfterParameters, AfterStars, B, L, Left, N, T};
 ghost use Rattle.c_parser.specs.Parts.{Fails, Grows, IsShallow, Reads};
 ghost use Rattle.c_parser.specs.Paths.{Breaks, IsReady};
-ghost use Rattle.c_parser.specs.Steps.{Leaf, MakePointer, OfDeclarator, OfItem, OfSpecifier, Parameters, Stars};
-ghost use Rattle.c_parser.specs.Ways.{begins_structure};
-ghost use Rattle.c_parser.specs.declared.words.Terminal.TheVariants as terminal;
+ghost use Rattle.c_grammar.specs.Steps.{Leaf, MakePointer, OfDeclarator, OfItem, OfSpecifier, Parameters, Stars};
+ghost use Rattle.c_grammar.specs.Ways.{begins_structure};
+ghost use Rattle.c_grammar.specs.declared.words.Terminal.TheVariants as terminal;
 ghost use Rattle.std.specs.Prelude.{◌≡◌, ◌^◌, ◌<◌, ◌≤◌, ◌+◌, [], ◌∷◌, drop, length, IfErr, IfOk};
 
 use crate::declarators::perhaps_length;
@@ -19,7 +19,7 @@ use crate::statements::block;
 use crate::structures::structure;
 use crate::type_names::parameter_types;
 use crate::types::{perhaps_private, pointer, specifier};
-use crate::words::{Terminal, Word};
+use c_grammar::{Terminal, Word};
 use c_ast::Items;
 use c_ast::program::{Declaration, Declarator, Header, Initialised, Item, Shape, Specifier, Star};
 use std::alloc::Global;

@@ -1,17 +1,15 @@
-//! The program that a list of tokens is.
+//! The program that a list of tokens is, or the token at fault.
 //!
-//! `parse` answers it, or names the token at which it stops; `specs/Programs.antt` says what the program
-//! of a source is, with its names and strings by number.
-//!
-//! `specs/Grammar.antt` is the grammar, a rule for each form, and `specs/Reading.antt` says what a reading
-//! is, how deep it nests each word, and what it builds. Words are tokens as the grammar sees them.
+//! `parse` answers it. `specs/Programs.antt` says what the program of a source is, with its names and strings
+//! by number, and what its fault is; the grammar itself is the crate `c_grammar`. `one_answer` says that no two
+//! answers fit the same tokens.
 #![tactic(auto)]
 
 mod declarators;
 mod errors;
 mod expressions;
-mod grammar;
 mod items;
+mod laws;
 mod members;
 mod objects;
 mod operators;
@@ -24,12 +22,10 @@ mod terminals;
 mod tokens_words;
 mod type_names;
 mod types;
-mod words;
 
 pub use errors::ParseError;
-pub use grammar::one_program;
+pub use laws::one_answer;
 pub use parsing::parse;
-pub use words::{Terminal, Word};
 
 #[cfg(test)]
 mod tests;

@@ -1,17 +1,17 @@
 //! Structs and parameters.
 
-ghost use Rattle.c_parser.specs.Grammar as form;
-ghost use Rattle.c_parser.specs.Grammar.{B, N};
+ghost use Rattle.c_grammar.specs.Grammar as form;
+ghost use Rattle.c_grammar.specs.Grammar.{B, N};
 ghost use Rattle.c_parser.specs.Parts.{Halts, IsShallow, Reads, Turns};
 ghost use Rattle.c_parser.specs.Paths.{Breaks, IsReady};
-ghost use Rattle.c_parser.specs.Steps.{Declarators, First, OfDeclarator, OfMember, OfParameter, Parameters};
+ghost use Rattle.c_grammar.specs.Steps.{Declarators, First, OfDeclarator, OfMember, OfParameter, Parameters};
 ghost use Rattle.std.specs.Prelude.{◌≡◌, ◌<◌, ◌≤◌, ◌+◌, [], ◌∷◌, IfErr, IfOk};
 
 use crate::declarators::{declarator, parameter};
 use crate::errors::ParseError;
 use crate::spot::{NESTING, Spot, next_is, take};
 use crate::types::{begins_type, is_bare_void, specifier};
-use crate::words::{Terminal, Word};
+use c_grammar::{Terminal, Word};
 use c_ast::Items;
 use c_ast::program::{Declarator, MemberDeclaration, Parameter};
 use std::alloc::Global;

@@ -1,10 +1,10 @@
 //! Declarations of objects, with their initialisers.
 
-ghost use Rattle.c_parser.specs.Grammar as form;
-ghost use Rattle.c_parser.specs.Grammar.{B, N};
+ghost use Rattle.c_grammar.specs.Grammar as form;
+ghost use Rattle.c_grammar.specs.Grammar.{B, N};
 ghost use Rattle.c_parser.specs.Parts.{Halts, IsShallow, Reads, Turns};
 ghost use Rattle.c_parser.specs.Paths.{Breaks, IsReady};
-ghost use Rattle.c_parser.specs.Steps.{AllInitialised, First, OfDeclaration, OfExpression, OfInitialised, Perhaps};
+ghost use Rattle.c_grammar.specs.Steps.{AllInitialised, First, OfDeclaration, OfExpression, OfInitialised, Perhaps};
 ghost use Rattle.std.specs.Prelude.{◌≡◌, ◌<◌, ◌≤◌, ◌+◌, [], ◌∷◌, IfErr, IfOk};
 
 use crate::declarators::declarator;
@@ -13,7 +13,7 @@ use crate::expressions::{Placed, expression};
 use crate::operators::begins_expression;
 use crate::spot::{NESTING, Spot, next_is, take};
 use crate::types::specifier;
-use crate::words::{Terminal, Word};
+use c_grammar::{Terminal, Word};
 use c_ast::program::{Declaration, Expression, Initialised};
 use c_ast::{Boxed, Items};
 use std::alloc::Global;

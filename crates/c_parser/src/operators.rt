@@ -1,13 +1,13 @@
 //! The operators of an expression, and what can begin one.
 
-ghost use Rattle.c_parser.specs.Grammar as form;
+ghost use Rattle.c_grammar.specs.Grammar as form;
 ghost use Rattle.c_parser.specs.Operators.{begins_evaluation, begins_item, begins_suffix, follows_object, is_evaluation, IsNoOperator, IsOperator, IsPrefix, level_of, no_prefix, object_next, op_of, prefix_of};
-ghost use Rattle.c_parser.specs.Ways.{can_be, can_begin, firsts, opens_type};
+ghost use Rattle.c_grammar.specs.Ways.{can_be, can_begin, firsts, opens_type};
 ghost use Rattle.std.specs.Prelude.{◌≡◌, ◌^◌, ◌<◌, ◌≤◌, drop, length, IfNone, IfSome, IsTrue};
 
 use crate::spot::next_is;
 use crate::types::begins_type;
-use crate::words::{Terminal, Word};
+use c_grammar::{Terminal, Word};
 use c_ast::program::{InfixOp, PrefixOp};
 
 /// An operator between two operands, and the number of its level. The tightest level is 0.

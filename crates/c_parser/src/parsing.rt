@@ -1,7 +1,7 @@
 //! The program of a source.
 
 ghost use Rattle.c_lexer.specs.Tokens.{IsTokenList};
-ghost use Rattle.c_parser.specs.Programs.{IsProgram, IsRefusal};
+ghost use Rattle.c_parser.specs.Programs.{IsFault, IsProgram, words_of_source};
 ghost use Rattle.std.specs.Prelude.{◌^◌, ◌<◌, length, IfErr, IfOk};
 
 use crate::errors::ParseError;
@@ -15,13 +15,14 @@ use std::alloc::Global;
 /// `source`, as `c_lexer::lex` answers them. Names and strings are numbered from 0, in the order in which
 /// they are first seen, and each place in the tree is an offset in `source`, in bytes.
 ///
-/// `SyntaxFault` and `DepthFault` name a token by its number, from 0 to the number of tokens: the tokens
-/// are no program in which no token is nested above 200.
+/// `SyntaxFault` names the first token with which no program goes on, by its number from 0. Where more tokens
+/// are needed, it names the number of all tokens. `DepthFault` names the first token that is nested above 200.
+/// The earlier of the two is told; `one_answer` says that nothing else fits the same tokens.
 pub fn parse(alloc: Global, tokens: &[Token], source: &[u8]) -> Result<Program, ParseError>
     requires short { length source.now < 2 ^ 32 }
     requires whole { IsTokenList source.now tokens.now }
     ensures program { IfOk result (IsProgram source.now tokens.now 200) }
-    ensures refused { IfErr result (IsRefusal source.now tokens.now 200) }
+    ensures refused { IfErr result (IsFault 200 (words_of_source source.now tokens.now)) }
 {
     tokens_lie_in_source();
     match words_of(alloc, tokens, source) {

@@ -1,14 +1,15 @@
 //! A whole source.
 
-ghost use Rattle.c_parser.specs.Parts.{IsNoProgram, IsProgramOf};
+ghost use Rattle.c_parser.specs.Parts.{IsProgramOf};
 ghost use Rattle.c_parser.specs.Paths.{AreBounded};
+ghost use Rattle.c_parser.specs.Programs.{IsFault};
 ghost use Rattle.std.specs.Prelude.{◌^◌, ◌<◌, length, IfErr, IfOk};
 
 use crate::errors::ParseError;
 use crate::items::top;
 use crate::spot::{NESTING, Spot, fault};
 use crate::types::begins_type;
-use crate::words::Word;
+use c_grammar::Word;
 use c_ast::Items;
 use c_ast::program::Item;
 use std::alloc::Global;
@@ -18,7 +19,7 @@ pub fn items_of(alloc: Global, words: &[Word]) -> Result<Items<Item>, ParseError
     requires short { length words.now < 2 ^ 32 }
     requires bounded { AreBounded words.now }
     ensures read { IfOk result (IsProgramOf NESTING words.now) }
-    ensures refused { IfErr result (IsNoProgram NESTING words.now) }
+    ensures refused { IfErr result (IsFault NESTING words.now) }
 {
     let mut items = Items::new(alloc);
     let mut here = Spot {

@@ -1,14 +1,14 @@
 //! A place among the words, and the one way on from it: to take the word that is wanted.
 
-ghost use Rattle.c_parser.specs.Grammar.{Here, T, L};
+ghost use Rattle.c_grammar.specs.Grammar.{Here, T, L};
 ghost use Rattle.c_parser.specs.Paths.{bound_of, Breaks, IsReady, Leads, next_is};
-ghost use Rattle.c_parser.specs.Steps.{Leaf, Place};
+ghost use Rattle.c_grammar.specs.Steps.{Leaf, Place};
 ghost use Rattle.c_parser.specs.declared.errors.ParseError.TheVariants.{SyntaxFault};
-ghost use Rattle.c_parser.specs.Terminals.{same_terminal};
+ghost use Rattle.c_grammar.specs.Terminals.{same_terminal};
 ghost use Rattle.std.specs.Prelude.{◌≡◌, ◌+◌, ◌^◌, ◌<◌, ◌≤◌, [], ◌∷◌, drop, length, slice_get, IfErr, IfOk};
 
 use crate::errors::ParseError;
-use crate::words::{Terminal, Word};
+use c_grammar::{Terminal, Word};
 
 /// How deep a token may be nested.
 pub const NESTING: u32 = 200;

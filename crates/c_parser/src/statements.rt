@@ -1,13 +1,13 @@
 //! Statements and blocks.
 
-ghost use Rattle.c_parser.specs.Grammar as form;
-ghost use Rattle.c_parser.specs.Grammar.{B, Here, N, T};
+ghost use Rattle.c_grammar.specs.Grammar as form;
+ghost use Rattle.c_grammar.specs.Grammar.{B, Here, N, T};
 ghost use Rattle.c_parser.specs.Parts.{IsShallow, Pushes, Reads, Sticks};
 ghost use Rattle.c_parser.specs.Paths.{Breaks, IsReady};
-ghost use Rattle.c_parser.specs.Steps.{MakeDoWhile, MakeEval, MakeFor, MakeReturn, MakeWhile, OfBlock, OfKind, OfStatement, Give};
+ghost use Rattle.c_grammar.specs.Steps.{MakeDoWhile, MakeEval, MakeFor, MakeReturn, MakeWhile, OfBlock, OfKind, OfStatement, Give};
 ghost use Rattle.c_parser.specs.Operators.{begins_item};
 ghost use Rattle.c_parser.specs.declared.errors.ParseError.TheVariants.{NoMemory};
-ghost use Rattle.c_parser.specs.declared.words.Terminal.TheVariants as terminal;
+ghost use Rattle.c_grammar.specs.declared.words.Terminal.TheVariants as terminal;
 ghost use Rattle.c_ast.specs.declared.program.StatementKind as statement;
 ghost use Rattle.std.specs.Prelude.{◌≡◌, ◌<◌, ◌≤◌, ◌+◌, true, None, Some, [], ◌∷◌, drop, IfErr, IfOk};
 
@@ -17,7 +17,7 @@ use crate::objects::{declaration, perhaps_whole, whole};
 use crate::operators::{begins_evaluation, begins_item};
 use crate::spot::{NESTING, Spot, next_is, place_here, take, take_here};
 use crate::types::begins_type;
-use crate::words::{Terminal, Word};
+use c_grammar::{Terminal, Word};
 use c_ast::program::{Block, BlockItem, Statement, StatementKind};
 use c_ast::{Boxed, Items};
 use std::alloc::Global;

@@ -1,17 +1,17 @@
 //! Definitions of structs.
 
-ghost use Rattle.c_parser.specs.Grammar as form;
-ghost use Rattle.c_parser.specs.Grammar.{B, N};
+ghost use Rattle.c_grammar.specs.Grammar as form;
+ghost use Rattle.c_grammar.specs.Grammar.{B, N};
 ghost use Rattle.c_parser.specs.Parts.{Halts, IsShallow, Reads, Turns};
 ghost use Rattle.c_parser.specs.Paths.{Breaks, IsReady};
-ghost use Rattle.c_parser.specs.Steps.{First, Members, OfItem, OfMember};
+ghost use Rattle.c_grammar.specs.Steps.{First, Members, OfItem, OfMember};
 ghost use Rattle.std.specs.Prelude.{◌≡◌, ◌<◌, ◌≤◌, ◌+◌, [], ◌∷◌, IfErr, IfOk};
 
 use crate::errors::ParseError;
 use crate::members::member_line;
 use crate::spot::{NESTING, Spot, take};
 use crate::types::begins_type;
-use crate::words::{Terminal, Word};
+use c_grammar::{Terminal, Word};
 use c_ast::Items;
 use c_ast::program::{Item, MemberDeclaration, StructDefinition};
 use std::alloc::Global;

@@ -1,9 +1,9 @@
 //! What a token is to the grammar.
 
-ghost use Rattle.c_parser.specs.Terminals.{keyword_spellings, sign_spellings, spelled_in, terminal_of};
+ghost use Rattle.c_grammar.specs.Terminals.{keyword_spellings, sign_spellings, spelled_in, terminal_of};
 ghost use Rattle.std.specs.Prelude.{◌≡◌, drop};
 
-use crate::words::Terminal;
+use c_grammar::Terminal;
 use c_lexer::TokenKind;
 
 /// The terminal that a keyword is.

@@ -1,15 +1,15 @@
 //! Types without names, and lists of them.
 
-ghost use Rattle.c_parser.specs.Grammar as form;
-ghost use Rattle.c_parser.specs.Grammar.{N, ParameterTypes, PerhapsPointer};
+ghost use Rattle.c_grammar.specs.Grammar as form;
+ghost use Rattle.c_grammar.specs.Grammar.{N, ParameterTypes, PerhapsPointer};
 ghost use Rattle.c_parser.specs.Paths.{Breaks, IsReady, Parses};
-ghost use Rattle.c_parser.specs.Steps.{OfType, OfTypeShape, Types};
+ghost use Rattle.c_grammar.specs.Steps.{OfType, OfTypeShape, Types};
 ghost use Rattle.std.specs.Prelude.{◌≡◌, ◌≤◌, [], ◌∷◌, IfErr, IfOk};
 
 use crate::errors::ParseError;
 use crate::spot::{NESTING, Spot, next_is, take};
 use crate::types::{begins_type, is_bare_void, perhaps_private, pointer, specifier};
-use crate::words::{Terminal, Word};
+use c_grammar::{Terminal, Word};
 use c_ast::Items;
 use c_ast::program::{TypeName, TypeShape};
 use std::alloc::Global;

@@ -1,15 +1,15 @@
 //! Base types, pointers and qualifiers.
 
-ghost use Rattle.c_parser.specs.Grammar as form;
-ghost use Rattle.c_parser.specs.Grammar.{BaseType, N, PerhapsPrivate, Pointer};
+ghost use Rattle.c_grammar.specs.Grammar as form;
+ghost use Rattle.c_grammar.specs.Grammar.{BaseType, N, PerhapsPrivate, Pointer};
 ghost use Rattle.c_parser.specs.Paths.{Breaks, IsReady, Parses};
-ghost use Rattle.c_parser.specs.Steps.{OfBase, OfSpecifier, Private, Stars};
-ghost use Rattle.c_parser.specs.Ways.{can_begin, is_bare_void};
+ghost use Rattle.c_grammar.specs.Steps.{OfBase, OfSpecifier, Private, Stars};
+ghost use Rattle.c_grammar.specs.Ways.{can_begin, is_bare_void};
 ghost use Rattle.std.specs.Prelude.{◌≡◌, ◌^◌, ◌<◌, [], ◌∷◌, drop, length, IfErr, IfOk};
 
 use crate::errors::ParseError;
 use crate::spot::{NESTING, Spot, fault, next_is, take};
-use crate::words::{Terminal, Word};
+use c_grammar::{Terminal, Word};
 use c_ast::Items;
 use c_ast::program::{Base, Specifier, Star};
 use std::alloc::Global;

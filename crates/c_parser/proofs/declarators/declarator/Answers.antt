@@ -1,14 +1,14 @@
 use Rattle.std.proofs.Common.{[], ◌∷◌, ◌+◌, drop, refl, sym, ap, ◌∙◌, arith, lit<}
 use Rattle.c_parser.specs.declared.spot.TheConstants.{NESTING}
-use Rattle.c_parser.specs.declared.words.Terminal.TheVariants as terminal
-use Rattle.c_parser.specs.Grammar as form
+use Rattle.c_grammar.specs.declared.words.Terminal.TheVariants as terminal
+use Rattle.c_grammar.specs.Grammar as form
 use Rattle.c_parser.specs.Paths.{Breaks}
 use Rattle.c_parser.proofs.NumberLemmas.{number_at}
 use Rattle.c_parser.proofs.PathLemmas.{begin_path, rule_path, pair_path, build_path, breaks, err_out}
 use Rattle.c_parser.proofs.FormLemmas.{only_place, place_then}
 use Rattle.c_ast.specs.declared.program.Shape.TheVariants as shape
-use Rattle.c_parser.specs.Grammar.{Symbol, N, T, L, B, Pointer, PerhapsPrivate, ParameterTypes, PerhapsLength, Left, AfterPointer}
-use Rattle.c_parser.specs.Steps.{Leaf, OfShape, OfDeclarator, Private, Stars, Types, MakeDeclarator, MakePointer}
+use Rattle.c_grammar.specs.Grammar.{Symbol, N, T, L, B, Pointer, PerhapsPrivate, ParameterTypes, PerhapsLength, Left, AfterPointer}
+use Rattle.c_grammar.specs.Steps.{Leaf, OfShape, OfDeclarator, Private, Stars, Types, MakeDeclarator, MakePointer}
 use Rattle.c_parser.proofs.DeclaratorLemmas.{declarator_number, named_number}
 use Rattle.c_parser.proofs.declarators.declarator.Goals as goal
 

@@ -1,11 +1,11 @@
 use Rattle.std.proofs.Common.{[], ◌∷◌, drop, refl, arith, lit<}
 use Rattle.c_parser.specs.declared.spot.TheConstants.{NESTING}
-use Rattle.c_parser.specs.Grammar as form
+use Rattle.c_grammar.specs.Grammar as form
 use Rattle.c_parser.specs.Paths.{Breaks}
 use Rattle.c_parser.proofs.PathLemmas.{begin_path, rule_path, pair_path, build_path, breaks, err_out}
 use Rattle.c_parser.proofs.FormLemmas.{only_place, place_then}
-use Rattle.c_parser.specs.Grammar.{Symbol, N, T, L, B, Specifier}
-use Rattle.c_parser.specs.Steps.{OfSpecifier, OfDeclarator, OfParameter, MakeParameter}
+use Rattle.c_grammar.specs.Grammar.{Symbol, N, T, L, B, Specifier}
+use Rattle.c_grammar.specs.Steps.{OfSpecifier, OfDeclarator, OfParameter, MakeParameter}
 use Rattle.c_parser.proofs.DeclaratorLemmas.{parameter_number}
 use Rattle.c_parser.proofs.declarators.parameter.Goals as goal
 

@@ -1,13 +1,13 @@
 use Rattle.std.proofs.Common.{[], ◌∷◌, ◌+◌, drop, false, refl, sym, ap, ◌∙◌, arith, lit<}
 use Rattle.c_parser.specs.declared.spot.TheConstants.{NESTING}
-use Rattle.c_parser.specs.declared.words.Terminal.TheVariants as terminal
+use Rattle.c_grammar.specs.declared.words.Terminal.TheVariants as terminal
 use Rattle.c_parser.specs.Paths.{Breaks}
 use Rattle.c_parser.proofs.NumberLemmas.{number_else}
 use Rattle.c_parser.proofs.PathLemmas.{begin_path, rule_path, pair_path, build_path, breaks, err_out}
 use Rattle.c_parser.proofs.FormLemmas.{only_place, place_then, begun_path}
 use Rattle.c_ast.specs.declared.program.Shape.TheVariants as shape
-use Rattle.c_parser.specs.Grammar.{N, T, L, B, PerhapsLength}
-use Rattle.c_parser.specs.Steps.{Leaf, OfShape, Give, MakeArray}
+use Rattle.c_grammar.specs.Grammar.{N, T, L, B, PerhapsLength}
+use Rattle.c_grammar.specs.Steps.{Leaf, OfShape, Give, MakeArray}
 use Rattle.c_parser.proofs.declarators.perhaps_length.Goals as goal
 
 pub returns-then-not-next_is-clause-read : goal.returns-then-not-next_is-clause-read

@@ -1,15 +1,15 @@
 use Rattle.std.proofs.Common.{◌+◌, [], ◌∷◌, drop, true, false, refl, sym, ap, subst, ◌∙◌, arith, lit<}
 use Rattle.std.proofs.lemmas.Bool.{cond-true, cond-false}
-use Rattle.c_parser.specs.declared.words.Terminal.TheVariants as terminal
+use Rattle.c_grammar.specs.declared.words.Terminal.TheVariants as terminal
 use Rattle.c_parser.specs.declared.spot.TheConstants.{NESTING}
 use Rattle.c_parser.specs.declared.errors.ParseError.{ParseError}
-use Rattle.c_parser.specs.Grammar as form
-use Rattle.c_parser.specs.Grammar.{AfterUnary, B, Ends, Here, In, L, Left, M, N, Out, T, Symbol, operand, prefix}
+use Rattle.c_grammar.specs.Grammar as form
+use Rattle.c_grammar.specs.Grammar.{AfterUnary, B, CountOperator, Here, In, L, Left, M, N, Out, T, Symbol, operand, prefix}
 use Rattle.c_parser.specs.Operators.{level_at, operands_between}
 use Rattle.c_parser.specs.Parts.{Moves}
 use Rattle.c_parser.specs.Paths.{Breaks}
-use Rattle.c_parser.specs.Steps.{MakeAssign, MakeBracket, MakeCall, MakeChoice, MakeIndex, MakeInfix, MakeSizeof, OfExpression}
-use Rattle.c_parser.specs.Ways.{typed_operand}
+use Rattle.c_grammar.specs.Steps.{MakeAssign, MakeBracket, MakeCall, MakeChoice, MakeIndex, MakeInfix, MakeSizeof, OfExpression}
+use Rattle.c_grammar.specs.Ways.{typed_operand}
 use Rattle.c_parser.proofs.NumberLemmas.{number_at, number_else}
 use Rattle.c_parser.proofs.OperatorLemmas.{arguments_number, arrow_next, no_suffix, postfix_next, no_unary_stop, after_number, postfix_number, expression_number, conditional_number, prefix_path}
 use Rattle.c_parser.proofs.LevelLemmas.{down, conditional_down, to_operator, no_operator}
@@ -74,19 +74,19 @@ primary-returns-clause-read t c =
 
 pub index-returns-in_err-one-clause-refused : goal.index-returns-in_err-one-clause-refused
 index-returns-in_err-one-clause-refused t c =
-    halts_so c.args.words.now c.args.spot (λ back. T terminal.OpenBracket ∷ N form.Expression ∷ T terminal.CloseBracket ∷ M Ends ∷ B MakeIndex ∷ back) (OfExpression c.args.left.place c.args.left.expression) c.from_residual.result c.in_err-one.field-0.0 c.from_residual.ensures.1 (λ start all left values p.
+    halts_so c.args.words.now c.args.spot (λ back. T terminal.OpenBracket ∷ N form.Expression ∷ T terminal.CloseBracket ∷ M CountOperator ∷ B MakeIndex ∷ back) (OfExpression c.args.left.place c.args.left.expression) c.from_residual.result c.in_err-one.field-0.0 c.from_residual.ensures.1 (λ start all left values p.
     stops_at (T terminal.OpenBracket ∷ []) _ c.in_err-one.field-0.0 p c.in_err-one.ensures.no_token)
 
 pub index-returns-in_err-inner-clause-refused : goal.index-returns-in_err-inner-clause-refused
 index-returns-in_err-inner-clause-refused t c =
-    halts_so c.args.words.now c.args.spot (λ back. T terminal.OpenBracket ∷ N form.Expression ∷ T terminal.CloseBracket ∷ M Ends ∷ B MakeIndex ∷ back) (OfExpression c.args.left.place c.args.left.expression) c.from_residual-in_err-inner.result c.in_err-inner.field-0.0 c.from_residual-in_err-inner.ensures.1 (λ start all left values p.
+    halts_so c.args.words.now c.args.spot (λ back. T terminal.OpenBracket ∷ N form.Expression ∷ T terminal.CloseBracket ∷ M CountOperator ∷ B MakeIndex ∷ back) (OfExpression c.args.left.place c.args.left.expression) c.from_residual-in_err-inner.result c.in_err-inner.field-0.0 c.from_residual-in_err-inner.ensures.1 (λ start all left values p.
     let p1 = read c.in_ok-one.ensures.token p in
     let m1 : Moves c.args.words.now c.args.spot c.in_ok-one.one = moved_by_one c.in_ok-one.ensures.place c.in_ok-one.ensures.more (c.requires.shallow.ended) in
     stops_at (N form.Expression ∷ []) _ c.in_err-inner.field-0.0 p1 c.in_err-inner.ensures.refused)
 
 pub index-returns-in_err-three-clause-refused : goal.index-returns-in_err-three-clause-refused
 index-returns-in_err-three-clause-refused t c =
-    halts_so c.args.words.now c.args.spot (λ back. T terminal.OpenBracket ∷ N form.Expression ∷ T terminal.CloseBracket ∷ M Ends ∷ B MakeIndex ∷ back) (OfExpression c.args.left.place c.args.left.expression) c.from_residual-in_err-three.result c.in_err-three.field-0.0 c.from_residual-in_err-three.ensures.1 (λ start all left values p.
+    halts_so c.args.words.now c.args.spot (λ back. T terminal.OpenBracket ∷ N form.Expression ∷ T terminal.CloseBracket ∷ M CountOperator ∷ B MakeIndex ∷ back) (OfExpression c.args.left.place c.args.left.expression) c.from_residual-in_err-three.result c.in_err-three.field-0.0 c.from_residual-in_err-three.ensures.1 (λ start all left values p.
     let p1 = read c.in_ok-one.ensures.token p in
     let m1 : Moves c.args.words.now c.args.spot c.in_ok-one.one = moved_by_one c.in_ok-one.ensures.place c.in_ok-one.ensures.more (c.requires.shallow.ended) in
     let p2 = read c.in_ok-inner.ensures.read.leads p1 in
@@ -111,19 +111,19 @@ index-returns-clause-read t c =
 
 pub call-returns-in_err-one-clause-refused : goal.call-returns-in_err-one-clause-refused
 call-returns-in_err-one-clause-refused t c =
-    halts_so c.args.words.now c.args.spot (λ back. T terminal.Open ∷ N form.Arguments ∷ T terminal.Close ∷ M Ends ∷ B MakeCall ∷ back) (OfExpression c.args.left.place c.args.left.expression) c.from_residual.result c.in_err-one.field-0.0 c.from_residual.ensures.1 (λ start all left values p.
+    halts_so c.args.words.now c.args.spot (λ back. T terminal.Open ∷ N form.Arguments ∷ T terminal.Close ∷ M CountOperator ∷ B MakeCall ∷ back) (OfExpression c.args.left.place c.args.left.expression) c.from_residual.result c.in_err-one.field-0.0 c.from_residual.ensures.1 (λ start all left values p.
     stops_at (T terminal.Open ∷ []) _ c.in_err-one.field-0.0 p c.in_err-one.ensures.no_token)
 
 pub call-returns-in_err-arguments-clause-refused : goal.call-returns-in_err-arguments-clause-refused
 call-returns-in_err-arguments-clause-refused t c =
-    halts_so c.args.words.now c.args.spot (λ back. T terminal.Open ∷ N form.Arguments ∷ T terminal.Close ∷ M Ends ∷ B MakeCall ∷ back) (OfExpression c.args.left.place c.args.left.expression) c.from_residual-in_err-arguments.result c.in_err-arguments.field-0.0 c.from_residual-in_err-arguments.ensures.1 (λ start all left values p.
+    halts_so c.args.words.now c.args.spot (λ back. T terminal.Open ∷ N form.Arguments ∷ T terminal.Close ∷ M CountOperator ∷ B MakeCall ∷ back) (OfExpression c.args.left.place c.args.left.expression) c.from_residual-in_err-arguments.result c.in_err-arguments.field-0.0 c.from_residual-in_err-arguments.ensures.1 (λ start all left values p.
     let p1 = read c.in_ok-one.ensures.token p in
     let m1 : Moves c.args.words.now c.args.spot c.in_ok-one.one = moved_by_one c.in_ok-one.ensures.place c.in_ok-one.ensures.more (c.requires.shallow.ended) in
     stops_at (N form.Arguments ∷ []) _ c.in_err-arguments.field-0.0 p1 c.in_err-arguments.ensures.refused)
 
 pub call-returns-in_err-three-clause-refused : goal.call-returns-in_err-three-clause-refused
 call-returns-in_err-three-clause-refused t c =
-    halts_so c.args.words.now c.args.spot (λ back. T terminal.Open ∷ N form.Arguments ∷ T terminal.Close ∷ M Ends ∷ B MakeCall ∷ back) (OfExpression c.args.left.place c.args.left.expression) c.from_residual-in_err-three.result c.in_err-three.field-0.0 c.from_residual-in_err-three.ensures.1 (λ start all left values p.
+    halts_so c.args.words.now c.args.spot (λ back. T terminal.Open ∷ N form.Arguments ∷ T terminal.Close ∷ M CountOperator ∷ B MakeCall ∷ back) (OfExpression c.args.left.place c.args.left.expression) c.from_residual-in_err-three.result c.in_err-three.field-0.0 c.from_residual-in_err-three.ensures.1 (λ start all left values p.
     let p1 = read c.in_ok-one.ensures.token p in
     let m1 : Moves c.args.words.now c.args.spot c.in_ok-one.one = moved_by_one c.in_ok-one.ensures.place c.in_ok-one.ensures.more (c.requires.shallow.ended) in
     let p2 = read c.in_ok-arguments.ensures.read.leads p1 in
@@ -394,12 +394,12 @@ cast-returns-clause-read t c =
 
 pub infix-returns-in_err-one-clause-refused : goal.infix-returns-in_err-one-clause-refused
 infix-returns-in_err-one-clause-refused t c =
-    halts_so c.args.words.now c.args.spot (λ back. T c.args.operator.sign ∷ M Ends ∷ N (operand (level_at c.args.operator.level)) ∷ B (MakeInfix c.args.operator.op) ∷ back) (OfExpression c.args.left.place c.args.left.expression) c.from_residual.result c.in_err-one.field-0.0 c.from_residual.ensures.1 (λ start all left values p.
+    halts_so c.args.words.now c.args.spot (λ back. T c.args.operator.sign ∷ M CountOperator ∷ N (operand (level_at c.args.operator.level)) ∷ B (MakeInfix c.args.operator.op) ∷ back) (OfExpression c.args.left.place c.args.left.expression) c.from_residual.result c.in_err-one.field-0.0 c.from_residual.ensures.1 (λ start all left values p.
     stops_at (T c.args.operator.sign ∷ []) _ c.in_err-one.field-0.0 p c.in_err-one.ensures.no_token)
 
 pub infix-returns-in_err-other-clause-refused : goal.infix-returns-in_err-other-clause-refused
 infix-returns-in_err-other-clause-refused t c =
-    halts_so c.args.words.now c.args.spot (λ back. T c.args.operator.sign ∷ M Ends ∷ N (operand (level_at c.args.operator.level)) ∷ B (MakeInfix c.args.operator.op) ∷ back) (OfExpression c.args.left.place c.args.left.expression) c.from_residual-in_err-other.result c.in_err-other.field-0.0 c.from_residual-in_err-other.ensures.1 (λ start all left values p.
+    halts_so c.args.words.now c.args.spot (λ back. T c.args.operator.sign ∷ M CountOperator ∷ N (operand (level_at c.args.operator.level)) ∷ B (MakeInfix c.args.operator.op) ∷ back) (OfExpression c.args.left.place c.args.left.expression) c.from_residual-in_err-other.result c.in_err-other.field-0.0 c.from_residual-in_err-other.ensures.1 (λ start all left values p.
     let p1 = read c.in_ok-one.ensures.token p in
     let m1 : Moves c.args.words.now c.args.spot c.in_ok-one.one = moved_by_one c.in_ok-one.ensures.place c.in_ok-one.ensures.more (c.requires.shallow.ended) in
     let p2 = counted p1 in

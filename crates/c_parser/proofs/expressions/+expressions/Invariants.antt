@@ -1,11 +1,11 @@
 use Rattle.std.proofs.Common.{[], ◌∷◌, ◌+◌, ◌-◌, ◌*◌, ◌≤◌, length}
 use Rattle.c_parser.specs.declared.spot.TheConstants.{NESTING}
-use Rattle.c_parser.specs.Grammar as form
-use Rattle.c_parser.specs.Grammar.{N}
+use Rattle.c_grammar.specs.Grammar as form
+use Rattle.c_grammar.specs.Grammar.{N}
 use Rattle.c_parser.specs.Operators.{operands_between}
 use Rattle.c_parser.specs.Parts.{Moves, Turns}
 use Rattle.c_parser.specs.Paths.{Path}
-use Rattle.c_parser.specs.Steps.{Arguments, OfExpression}
+use Rattle.c_grammar.specs.Steps.{Arguments, OfExpression}
 use Rattle.c_parser.proofs.expressions.+expressions.Given as goal
 
 abbrev pub decreases-after_unary : goal.decreases-after_unary

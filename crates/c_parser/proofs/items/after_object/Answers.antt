@@ -1,9 +1,9 @@
 use Rattle.std.proofs.Common.{[], ◌∷◌, drop, refl, lit<}
-use Rattle.c_parser.specs.declared.words.Terminal.TheVariants as terminal
-use Rattle.c_parser.specs.Grammar as form
-use Rattle.c_parser.specs.Grammar.{AfterUnary, AfterName, AfterObject, AfterParameters, AfterStars, B, Ends, Here, In, L, Left, M, N, Out, T, Symbol, operand, prefix}
+use Rattle.c_grammar.specs.declared.words.Terminal.TheVariants as terminal
+use Rattle.c_grammar.specs.Grammar as form
+use Rattle.c_grammar.specs.Grammar.{AfterUnary, AfterName, AfterObject, AfterParameters, AfterStars, B, CountOperator, Here, In, L, Left, M, N, Out, T, Symbol, operand, prefix}
 use Rattle.c_parser.specs.Parts.{Moves}
-use Rattle.c_parser.specs.Steps.{OfInitialised, MakeObject, OfDeclaration, OfSpecifier, OfDeclarator, MakeDeclaration}
+use Rattle.c_grammar.specs.Steps.{OfInitialised, MakeObject, OfDeclaration, OfSpecifier, OfDeclarator, MakeDeclaration}
 use Rattle.c_parser.proofs.ItemLemmas.{object_number}
 use Rattle.c_parser.proofs.Chains.{by_rule, read, made, stops_at, fails_so, moved_by_one, moved_then}
 use Rattle.c_parser.proofs.items.after_object.Goals as goal

@@ -1,8 +1,8 @@
 use Rattle.std.proofs.Common.{[], ◌∷◌, drop, refl, sym, ◌∙◌, lit<}
-use Rattle.c_parser.specs.declared.words.Terminal.TheVariants as terminal
-use Rattle.c_parser.specs.Grammar.{AfterObject, AfterStars, L, Left, N}
+use Rattle.c_grammar.specs.declared.words.Terminal.TheVariants as terminal
+use Rattle.c_grammar.specs.Grammar.{AfterObject, AfterStars, L, Left, N}
 use Rattle.c_parser.specs.Parts.{Moves}
-use Rattle.c_parser.specs.Steps.{OfSpecifier, Stars}
+use Rattle.c_grammar.specs.Steps.{OfSpecifier, Stars}
 use Rattle.c_parser.proofs.NumberLemmas.{number_at}
 use Rattle.c_parser.proofs.ItemLemmas.{name_number}
 use Rattle.c_parser.proofs.Chains.{by_rule, read, stops_at, fails_so, moved_by_one, moved_then}

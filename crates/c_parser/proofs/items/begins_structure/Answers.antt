@@ -1,7 +1,7 @@
 use Rattle.std.proofs.Common.{◌&&◌, drop, sym, ap, ◌∙◌, arith}
 use Rattle.std.proofs.lemmas.List.{length-drop}
 use Rattle.c_parser.specs.Paths.{next_is}
-use Rattle.c_parser.specs.declared.words.Terminal.TheVariants.{Struct}
+use Rattle.c_grammar.specs.declared.words.Terminal.TheVariants.{Struct}
 use Rattle.c_parser.proofs.ItemLemmas.{structure_short, structure_long}
 use Rattle.c_parser.proofs.items.begins_structure.Goals as goal
 

@@ -1,7 +1,7 @@
 use Rattle.std.proofs.Common.{[], ◌∷◌, sym, ◌∙◌, lit<}
 use Rattle.std.proofs.lemmas.Bool.{cond-true, cond-false}
-use Rattle.c_parser.specs.Grammar as form
-use Rattle.c_parser.specs.Grammar.{AfterUnary, AfterName, AfterObject, AfterParameters, AfterStars, B, Ends, Here, In, L, Left, M, N, Out, T, Symbol, operand, prefix}
+use Rattle.c_grammar.specs.Grammar as form
+use Rattle.c_grammar.specs.Grammar.{AfterUnary, AfterName, AfterObject, AfterParameters, AfterStars, B, CountOperator, Here, In, L, Left, M, N, Out, T, Symbol, operand, prefix}
 use Rattle.c_parser.specs.Parts.{Moves}
 use Rattle.c_parser.proofs.Chains.{starts, by_rule, read, exits, exits_so, moved_by_form, moved_then}
 use Rattle.c_parser.proofs.items.top.Goals as goal

@@ -1,8 +1,8 @@
 use Rattle.std.proofs.Common.{◌∷◌, ◌≡◌, ◌-◌, length}
-use Rattle.c_parser.specs.Grammar as form
-use Rattle.c_parser.specs.Grammar.{N, B}
+use Rattle.c_grammar.specs.Grammar as form
+use Rattle.c_grammar.specs.Grammar.{N, B}
 use Rattle.c_parser.specs.Parts.{Turns}
-use Rattle.c_parser.specs.Steps.{Declarators, OfDeclarator, First}
+use Rattle.c_grammar.specs.Steps.{Declarators, OfDeclarator, First}
 use Rattle.c_parser.proofs.members.more_declarators.Given as goal
 
 abbrev pub invariant-loop-alloc : goal.invariant-loop-alloc

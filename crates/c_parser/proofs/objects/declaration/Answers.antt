@@ -1,9 +1,9 @@
 use Rattle.std.proofs.Common.{[], ◌∷◌, drop, refl, lit<}
-use Rattle.c_parser.specs.declared.words.Terminal.TheVariants as terminal
-use Rattle.c_parser.specs.Grammar as form
-use Rattle.c_parser.specs.Grammar.{AfterUnary, B, Ends, Here, In, L, Left, M, N, Out, T, Symbol, operand, prefix}
+use Rattle.c_grammar.specs.declared.words.Terminal.TheVariants as terminal
+use Rattle.c_grammar.specs.Grammar as form
+use Rattle.c_grammar.specs.Grammar.{AfterUnary, B, CountOperator, Here, In, L, Left, M, N, Out, T, Symbol, operand, prefix}
 use Rattle.c_parser.specs.Parts.{Moves}
-use Rattle.c_parser.specs.Steps.{MakeDeclaration}
+use Rattle.c_grammar.specs.Steps.{MakeDeclaration}
 use Rattle.c_parser.proofs.ObjectLemmas.{declaration_number}
 use Rattle.c_parser.proofs.Chains.{starts, by_rule, read, made, exits, exits_so, moved_by_one, moved_by_form, moved_then}
 use Rattle.c_parser.proofs.objects.declaration.Goals as goal

@@ -1,5 +1,5 @@
 use Rattle.std.proofs.Common.{List, ◌<◌, ◌^◌, length, sym, subst, ◌∙◌}
-use Rattle.c_parser.specs.declared.words.Word.{Word}
+use Rattle.c_grammar.specs.declared.words.Word.{Word}
 use Rattle.c_parser.specs.Paths.{AreBounded}
 use Rattle.c_parser.proofs.BoundLemmas.{words_bounded, words_short}
 use Rattle.c_parser.proofs.parsing.parse.Goals as goal

@@ -1,9 +1,9 @@
 use Rattle.std.proofs.Common.{[], ◌∷◌, true, false, drop, refl, sym, subst, ◌∙◌, arith, lit<}
 use Rattle.c_parser.specs.declared.spot.TheConstants.{NESTING}
 use Rattle.c_parser.specs.declared.errors.ParseError.{ParseError}
-use Rattle.c_parser.specs.Grammar as form
-use Rattle.c_parser.specs.Grammar.{N}
-use Rattle.c_parser.specs.Parts.{IsNoProgram}
+use Rattle.c_grammar.specs.Grammar as form
+use Rattle.c_grammar.specs.Grammar.{N}
+use Rattle.c_parser.specs.Programs.{IsFault}
 use Rattle.c_parser.proofs.Chains.{by_rule, made, read, stays, stops_at, moved_then}
 use Rattle.c_parser.proofs.ProgramLemmas.{tops_number, program_begins, whole_program, breaks_program, no_end}
 use Rattle.c_parser.proofs.program.items_of.Goals as goal
@@ -33,7 +33,7 @@ loop-alloc-preserved c =
 pub returns-then-here-words-clause-refused : goal.returns-then-here-words-clause-refused
 returns-then-here-words-clause-refused c =
     let p = by_rule form.Tops 1 (tops_number (drop c.loop-alloc.here.at c.args.words.now) false (sym c.begins_type.ensures ∙ c.loop-alloc-test.false)) (lit< tt) c.loop-alloc.invariant.path in
-    subst (λ (e : ParseError). IsNoProgram NESTING c.args.words.now e) (sym c.fault.ensures) (no_end c.args.words.now c.loop-alloc.here c.loop-alloc.items c.loop-alloc.here.at c.if-here-words.true p)
+    subst (λ (e : ParseError). IsFault NESTING c.args.words.now e) (sym c.fault.ensures) (no_end c.args.words.now c.loop-alloc.here c.loop-alloc.items c.if-here-words.true p)
 
 pub returns-clause-read : goal.returns-clause-read
 returns-clause-read c =

@@ -1,10 +1,10 @@
 use Rattle.std.proofs.Common.{[], ◌∷◌, ◌≡◌, ◌-◌, length}
 use Rattle.c_parser.specs.declared.spot.TheConstants.{NESTING}
-use Rattle.c_parser.specs.Grammar as form
-use Rattle.c_parser.specs.Grammar.{N}
+use Rattle.c_grammar.specs.Grammar as form
+use Rattle.c_grammar.specs.Grammar.{N}
 use Rattle.c_parser.specs.Parts.{Moves, first_spot}
 use Rattle.c_parser.specs.Paths.{Path}
-use Rattle.c_parser.specs.Steps.{Items}
+use Rattle.c_grammar.specs.Steps.{Items}
 use Rattle.c_parser.proofs.program.items_of.Given as goal
 
 abbrev pub invariant-loop-alloc : goal.invariant-loop-alloc

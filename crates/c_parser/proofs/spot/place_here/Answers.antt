@@ -1,7 +1,7 @@
 use Rattle.std.proofs.Common.{[], ◌∷◌, sym, subst}
 use Rattle.c_parser.specs.declared.spot.TheConstants.{NESTING}
 use Rattle.c_parser.specs.declared.errors.ParseError.{ParseError}
-use Rattle.c_parser.specs.Grammar.{Here}
+use Rattle.c_grammar.specs.Grammar.{Here}
 use Rattle.c_parser.specs.Paths.{Breaks}
 use Rattle.c_parser.proofs.PathLemmas.{here_path, nowhere_stop}
 use Rattle.c_parser.proofs.Chains.{starts}

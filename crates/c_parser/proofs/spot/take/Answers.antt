@@ -1,8 +1,8 @@
 use Rattle.std.proofs.Common.{sym, ◌∙◌, arith}
 use Rattle.std.proofs.lemmas.Option.{slice_get-get_or}
 use Rattle.c_parser.specs.declared.spot.TheConstants.{NESTING}
-use Rattle.c_parser.specs.Grammar.{T, L}
-use Rattle.c_parser.specs.Descent.{plain, valued}
+use Rattle.c_grammar.specs.Grammar.{T, L}
+use Rattle.c_grammar.specs.Descent.{plain, valued}
 use Rattle.c_parser.proofs.PathLemmas.{no_word, next_word, token_path, leaf_path, deep_stop, no_word_stop}
 use Rattle.c_parser.proofs.spot.take.Goals as goal
 

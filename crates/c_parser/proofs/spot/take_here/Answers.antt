@@ -1,11 +1,11 @@
 use Rattle.std.proofs.Common.{[], ◌∷◌, ◌-◌, length, sym, subst}
 use Rattle.std.proofs.lemmas.Option.{get_or_from_slice_get}
-use Rattle.c_parser.specs.declared.words.Word.{Word}
+use Rattle.c_grammar.specs.declared.words.Word.{Word}
 use Rattle.c_parser.specs.declared.spot.TheConstants.{NESTING}
 use Rattle.c_parser.specs.declared.errors.ParseError.{ParseError}
-use Rattle.c_parser.specs.Grammar.{Here, T}
-use Rattle.c_parser.specs.Steps.{Place}
-use Rattle.c_parser.specs.Descent.{Faults}
+use Rattle.c_grammar.specs.Grammar.{Here, T}
+use Rattle.c_grammar.specs.Steps.{Place}
+use Rattle.c_grammar.specs.Descent.{Faults}
 use Rattle.c_parser.specs.Paths.{Path, Breaks}
 use Rattle.c_parser.proofs.PathLemmas.{no_word, here_path, nowhere_stop, break_path}
 use Rattle.c_parser.proofs.Chains.{starts, read, exits}

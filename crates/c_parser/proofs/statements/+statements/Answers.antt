@@ -1,10 +1,10 @@
 use Rattle.std.proofs.Common.{[], ◌∷◌, drop, true, false, refl, sym, ap, ◌∙◌, arith, lit<}
 use Rattle.c_ast.specs.declared.program.StatementKind as statement
-use Rattle.c_parser.specs.declared.words.Terminal.TheVariants as terminal
-use Rattle.c_parser.specs.Grammar as form
-use Rattle.c_parser.specs.Grammar.{AfterUnary, B, Ends, Here, In, L, Left, M, N, Out, T, Symbol, operand, prefix}
+use Rattle.c_grammar.specs.declared.words.Terminal.TheVariants as terminal
+use Rattle.c_grammar.specs.Grammar as form
+use Rattle.c_grammar.specs.Grammar.{AfterUnary, B, CountOperator, Here, In, L, Left, M, N, Out, T, Symbol, operand, prefix}
 use Rattle.c_parser.specs.Parts.{Moves}
-use Rattle.c_parser.specs.Steps.{Give, OfKind, MakeEval, MakeReturn, MakeWhile, MakeDoWhile, MakeFor}
+use Rattle.c_grammar.specs.Steps.{Give, OfKind, MakeEval, MakeReturn, MakeWhile, MakeDoWhile, MakeFor}
 use Rattle.c_parser.proofs.NumberLemmas.{number_at, number_else}
 use Rattle.c_parser.proofs.StatementLemmas.{statement_number, block_number, not_begun, evaluation_number, other_number, declaration_next, statement_next, no_item}
 use Rattle.c_parser.proofs.Chains.{guarded, deeper, starts, by_rule, read, made, entered, leaves, exits, exits_so, stops_at, sticks_so, exits_memory, moved_by_one, moved_then, moved_inside}

@@ -1,11 +1,11 @@
 use Rattle.std.proofs.Common.{[], ◌∷◌, ◌≡◌, ◌+◌, ◌-◌, ◌*◌, ◌<◌, length}
-use Rattle.c_parser.specs.declared.words.Terminal.TheVariants as terminal
+use Rattle.c_grammar.specs.declared.words.Terminal.TheVariants as terminal
 use Rattle.c_parser.specs.declared.spot.TheConstants.{NESTING}
-use Rattle.c_parser.specs.Grammar as form
-use Rattle.c_parser.specs.Grammar.{N, T, B}
+use Rattle.c_grammar.specs.Grammar as form
+use Rattle.c_grammar.specs.Grammar.{N, T, B}
 use Rattle.c_parser.specs.Parts.{Moves}
 use Rattle.c_parser.specs.Paths.{Path}
-use Rattle.c_parser.specs.Steps.{BlockItems, MakeBlock, Place}
+use Rattle.c_grammar.specs.Steps.{BlockItems, MakeBlock, Place}
 use Rattle.c_parser.proofs.statements.+statements.Given as goal
 
 abbrev pub decreases-block : goal.decreases-block

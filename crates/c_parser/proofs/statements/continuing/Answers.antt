@@ -1,9 +1,9 @@
 use Rattle.std.proofs.Common.{[], ◌∷◌, refl}
 use Rattle.c_ast.specs.declared.program.StatementKind as statement
-use Rattle.c_parser.specs.declared.words.Terminal.TheVariants as terminal
-use Rattle.c_parser.specs.Grammar.{B, T}
+use Rattle.c_grammar.specs.declared.words.Terminal.TheVariants as terminal
+use Rattle.c_grammar.specs.Grammar.{B, T}
 use Rattle.c_parser.specs.Parts.{Moves}
-use Rattle.c_parser.specs.Steps.{Give, OfKind}
+use Rattle.c_grammar.specs.Steps.{Give, OfKind}
 use Rattle.c_parser.proofs.Chains.{starts, read, made, exits, moved_by_one, moved_then}
 use Rattle.c_parser.proofs.statements.continuing.Goals as goal
 

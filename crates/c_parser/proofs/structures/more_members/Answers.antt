@@ -1,7 +1,7 @@
 use Rattle.std.proofs.Common.{[], ◌∷◌, drop, true, false, refl, sym, ◌∙◌, lit<}
-use Rattle.c_parser.specs.Grammar as form
-use Rattle.c_parser.specs.Grammar.{AfterUnary, B, Ends, Here, In, L, Left, M, N, Out, T, Symbol, operand, prefix}
-use Rattle.c_parser.specs.Steps.{First, OfMember}
+use Rattle.c_grammar.specs.Grammar as form
+use Rattle.c_grammar.specs.Grammar.{AfterUnary, B, CountOperator, Here, In, L, Left, M, N, Out, T, Symbol, operand, prefix}
+use Rattle.c_grammar.specs.Steps.{First, OfMember}
 use Rattle.c_parser.proofs.StructureLemmas.{members_number}
 use Rattle.c_parser.proofs.Chains.{stays, by_rule, read, made, stops_at, halts_so, moved_then}
 use Rattle.c_parser.proofs.structures.more_members.Goals as goal

@@ -3,10 +3,10 @@ use Rattle.c_ast.specs.declared.program.TypeName.{TypeName}
 use Rattle.c_ast.specs.declared.program.TypeShape as type_shape
 use Rattle.c_parser.specs.declared.spot.Spot.{Spot}
 use Rattle.c_parser.specs.declared.spot.TheConstants.{NESTING}
-use Rattle.c_parser.specs.declared.words.Terminal.TheVariants as terminal
-use Rattle.c_parser.specs.Grammar as form
-use Rattle.c_parser.specs.Grammar.{Symbol, N, T, M, B, Pointer, Specifier, PerhapsPrivate, PerhapsPointer, ParameterTypes, MoreTypes, Out}
-use Rattle.c_parser.specs.Steps.{OfSpecifier, OfType, OfTypeShape, Private, Stars, Types, Give, Push, MakeType, MakePointerType}
+use Rattle.c_grammar.specs.declared.words.Terminal.TheVariants as terminal
+use Rattle.c_grammar.specs.Grammar as form
+use Rattle.c_grammar.specs.Grammar.{Symbol, N, T, M, B, Pointer, Specifier, PerhapsPrivate, PerhapsPointer, ParameterTypes, MoreTypes, Out}
+use Rattle.c_grammar.specs.Steps.{OfSpecifier, OfType, OfTypeShape, Private, Stars, Types, Give, Push, MakeType, MakePointerType}
 use Rattle.c_parser.specs.Paths.{Breaks, Path}
 use Rattle.c_parser.proofs.NumberLemmas.{number_else}
 use Rattle.c_parser.proofs.PathLemmas.{begin_path, rule_path, pair_path, build_path, breaks, err_out}

@@ -1,8 +1,8 @@
 use Rattle.std.proofs.Common.{[], ◌∷◌, ◌≡◌, ◌+◌, ◌-◌, ◌*◌, ◌≤◌, length}
 use Rattle.c_parser.specs.declared.spot.TheConstants.{NESTING}
-use Rattle.c_parser.specs.Grammar.{N, M, ParameterTypes, MoreTypes, Out}
+use Rattle.c_grammar.specs.Grammar.{N, M, ParameterTypes, MoreTypes, Out}
 use Rattle.c_parser.specs.Paths.{Path}
-use Rattle.c_parser.specs.Steps.{Types}
+use Rattle.c_grammar.specs.Steps.{Types}
 use Rattle.c_parser.proofs.type_names.+type_names.Given as goal
 
 abbrev pub decreases-perhaps_pointer : goal.decreases-perhaps_pointer

@@ -1,12 +1,12 @@
 use Rattle.std.proofs.Common.{[], ◌∷◌, ◌+◌, ◌-◌, length, drop, refl, sym, ap, subst, ◌∙◌, arith, lit<}
 use Rattle.c_ast.specs.declared.program.Base.TheVariants as base
 use Rattle.c_parser.specs.declared.spot.TheConstants.{NESTING}
-use Rattle.c_parser.specs.declared.words.Terminal.TheVariants as terminal
-use Rattle.c_parser.specs.declared.words.Terminal.TheVariants.{Name, Char, Int, Long, Void, Struct}
-use Rattle.c_parser.specs.Grammar.{N, T, L, B, BaseType}
-use Rattle.c_parser.specs.Descent.{plain, Faults}
+use Rattle.c_grammar.specs.declared.words.Terminal.TheVariants as terminal
+use Rattle.c_grammar.specs.declared.words.Terminal.TheVariants.{Name, Char, Int, Long, Void, Struct}
+use Rattle.c_grammar.specs.Grammar.{N, T, L, B, BaseType}
+use Rattle.c_grammar.specs.Descent.{plain, Faults}
 use Rattle.c_parser.specs.Paths.{Breaks}
-use Rattle.c_parser.specs.Steps.{OfBase, Leaf, Give, MakeStruct}
+use Rattle.c_grammar.specs.Steps.{OfBase, Leaf, Give, MakeStruct}
 use Rattle.c_parser.proofs.PathLemmas.{begin_path, rule_path, pair_path, build_path, break_path, breaks, err_out, no_word_stop}
 use Rattle.c_parser.proofs.FormLemmas.{only_place, place_then, begun_path, word_parses, base_none}
 use Rattle.c_parser.proofs.types.base_type.Goals as goal

@@ -1,6 +1,6 @@
 use Rattle.std.proofs.Common.{drop, sym, ap, ◌∙◌}
 use Rattle.std.proofs.lemmas.List.{drop_all}
-use Rattle.c_parser.specs.Ways.{is_bare_void}
+use Rattle.c_grammar.specs.Ways.{is_bare_void}
 use Rattle.c_parser.proofs.TypeNameLemmas.{bare_void_next, no_void}
 use Rattle.c_parser.proofs.types.is_bare_void.Goals as goal
 

@@ -1,11 +1,11 @@
 use Rattle.std.proofs.Common.{List, [], ◌∷◌, ◌≡◌, drop, true, false, refl, sym, ap, ◌∙◌, arith, lit<}
 use Rattle.c_parser.specs.declared.spot.TheConstants.{NESTING}
-use Rattle.c_parser.specs.declared.words.Terminal.TheVariants as terminal
-use Rattle.c_parser.specs.declared.words.Word.{Word}
+use Rattle.c_grammar.specs.declared.words.Terminal.TheVariants as terminal
+use Rattle.c_grammar.specs.declared.words.Word.{Word}
 use Rattle.c_parser.specs.declared.spot.Spot.{Spot}
-use Rattle.c_parser.specs.Grammar.{N, T, B, PerhapsPrivate}
+use Rattle.c_grammar.specs.Grammar.{N, T, B, PerhapsPrivate}
 use Rattle.c_parser.specs.Paths.{Breaks, Path, next_is}
-use Rattle.c_parser.specs.Steps.{Private, Give}
+use Rattle.c_grammar.specs.Steps.{Private, Give}
 use Rattle.c_parser.proofs.PathLemmas.{begin_path, rule_path, pair_path, build_path, breaks, err_out}
 use Rattle.c_parser.proofs.NumberLemmas.{number_else}
 use Rattle.c_parser.proofs.types.perhaps_private.Goals as goal

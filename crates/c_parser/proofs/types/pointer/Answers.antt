@@ -1,9 +1,9 @@
 use Rattle.std.proofs.Common.{List, [], ◌∷◌, ◌+◌, refl, sym, ap, subst, ◌∙◌, arith}
 use Rattle.c_ast.specs.declared.program.Star.{Star}
 use Rattle.c_parser.specs.declared.spot.TheConstants.{NESTING}
-use Rattle.c_parser.specs.declared.words.Terminal.TheVariants as terminal
-use Rattle.c_parser.specs.Grammar.{N, T, M, B, Pointer, MoreStars, PerhapsPrivate, EndStars}
-use Rattle.c_parser.specs.Steps.{Stars, Push}
+use Rattle.c_grammar.specs.declared.words.Terminal.TheVariants as terminal
+use Rattle.c_grammar.specs.Grammar.{N, T, M, B, Pointer, MoreStars, PerhapsPrivate, ForgetStars}
+use Rattle.c_grammar.specs.Steps.{Stars, Push}
 use Rattle.c_parser.specs.Paths.{Breaks, Path}
 use Rattle.c_parser.proofs.PathLemmas.{breaks, err_out}
 use Rattle.c_parser.proofs.TypeLemmas.{after_star, pointer_begin, star_next, star_marked, star_pushed, pointer_end}
@@ -11,7 +11,7 @@ use Rattle.c_parser.proofs.types.pointer.Goals as goal
 
 pub loop-here-init : goal.loop-here-init
 loop-here-init c = record {
-  path = subst (λ (stars : List Star). Path NESTING c.args.words.now c.args.spot (N Pointer ∷ []) c.args.spot (N MoreStars ∷ M EndStars ∷ []) (Stars stars ∷ [])) (sym c.new-stars.ensures)
+  path = subst (λ (stars : List Star). Path NESTING c.args.words.now c.args.spot (N Pointer ∷ []) c.args.spot (N MoreStars ∷ M ForgetStars ∷ []) (Stars stars ∷ [])) (sym c.new-stars.ensures)
       (pointer_begin c.args.words.now c.args.spot);
   on = omega arith;
   within = c.requires.ready.within;
@@ -39,7 +39,7 @@ returns-in_err-is_private-clause-refused c =
     let behind = c.in_ok-behind.behind in
     let marked = record behind { stars = behind.stars + 1 } in
     err_out (Breaks NESTING words spot (N Pointer ∷ [])) c.from_residual-in_err-is_private.result c.in_err-is_private.field-0.0 c.from_residual-in_err-is_private.ensures.1
-    (breaks NESTING words spot (N Pointer ∷ []) marked (N PerhapsPrivate ∷ []) (B Push ∷ N MoreStars ∷ M EndStars ∷ []) (Stars stars ∷ []) c.in_err-is_private.field-0.0
+    (breaks NESTING words spot (N Pointer ∷ []) marked (N PerhapsPrivate ∷ []) (B Push ∷ N MoreStars ∷ M ForgetStars ∷ []) (Stars stars ∷ []) c.in_err-is_private.field-0.0
     (star_marked words spot here behind marked stars (sym c.next_is.ensures ∙ c.loop-here-test.true) c.loop-here.invariant.path c.in_ok-behind.ensures.token refl)
     c.in_err-is_private.ensures.refused)
 
@@ -57,7 +57,7 @@ loop-here-preserved c =
     let path = star_pushed words spot marked to stars c.in_ok-is_private.is_private
     (star_marked words spot here behind marked stars (sym c.next_is.ensures ∙ c.loop-here-test.true) c.loop-here.invariant.path c.in_ok-behind.ensures.token refl) read.leads in
     record {
-      path = subst (λ (l : List Star). Path NESTING words spot (N Pointer ∷ []) to (N MoreStars ∷ M EndStars ∷ []) (Stars l ∷ [])) (sym c.in_ok-push.ensures.ok) path;
+      path = subst (λ (l : List Star). Path NESTING words spot (N Pointer ∷ []) to (N MoreStars ∷ M ForgetStars ∷ []) (Stars l ∷ [])) (sym c.in_ok-push.ensures.ok) path;
       on = omega (arith, read.on, ap (λ s. s.at) place, c.loop-here.invariant.on);
       within = read.within;
       depth = ap (λ s. s.depth) read.same ∙ ap (λ s. s.depth) place ∙ c.loop-here.invariant.depth;

@@ -1,8 +1,8 @@
 use Rattle.std.proofs.Common.{[], ◌∷◌, ◌-◌, length, sym, subst, arith}
 use Rattle.c_parser.specs.declared.spot.TheConstants.{NESTING}
-use Rattle.c_parser.specs.Grammar.{N, B, Here, Specifier, PerhapsPrivate, BaseType}
-use Rattle.c_parser.specs.Descent.{Faults}
-use Rattle.c_parser.specs.Steps.{Place, Private, OfBase, MakeSpecifier}
+use Rattle.c_grammar.specs.Grammar.{N, B, Here, Specifier, PerhapsPrivate, BaseType}
+use Rattle.c_grammar.specs.Descent.{Faults}
+use Rattle.c_grammar.specs.Steps.{Place, Private, OfBase, MakeSpecifier}
 use Rattle.c_parser.specs.Paths.{Breaks}
 use Rattle.c_parser.proofs.PathLemmas.{break_path, breaks, err_out, nowhere_stop}
 use Rattle.c_parser.proofs.FormLemmas.{place_then}

@@ -4,14 +4,14 @@ use Rattle.std.specs.Prelude.{Contains, ◌⊎◌}
 use Rattle.std.specs.List.{list_all}
 use Rattle.std.proofs.lemmas.Bool.{and_parts, and_from, or_cases, or_left, or_right, both_ways, eqb-true}
 use Rattle.c_lexer.proofs.Lists.{member_passes}
-use Rattle.c_parser.specs.declared.words.Terminal.{Terminal}
-use Rattle.c_parser.specs.Terminals.{number_of, same_terminal}
-use Rattle.c_parser.specs.Steps.{Value}
-use Rattle.c_parser.specs.Grammar.{Form, Symbol, T, L, N, M, B, Here, Unless}
-use Rattle.c_parser.specs.Ways.{ways, way_at, firsts, may_be_empty, can_be, begins, passes, empty_way, begun_way}
-use Rattle.c_parser.specs.Reading.{State, nesting, Nested, nested, Ending, Complete, Run, stop, done, token, leaf, here, mark, step, unless, rule}
-use Rattle.c_parser.proofs.Runs.{heads}
-use Rattle.c_parser.proofs.Tables.{all_terminals, every_terminal, follows, can_end, fit_in, end_in, is_hard, can_have, one_from, one_empty_from, are_firsts_closed, are_empty_closed, are_follows_closed, are_ends_closed, has_one_way, has_one_empty}
+use Rattle.c_grammar.specs.declared.words.Terminal.{Terminal}
+use Rattle.c_grammar.specs.Terminals.{number_of, same_terminal}
+use Rattle.c_grammar.specs.Steps.{Value}
+use Rattle.c_grammar.specs.Grammar.{Form, Symbol, T, L, N, M, B, Here, Unless}
+use Rattle.c_grammar.specs.Ways.{ways, way_at, firsts, may_be_empty, can_be, begins, passes, empty_way, begun_way}
+use Rattle.c_grammar.specs.Reading.{State, nesting, Nested, nested, Ending, Complete, Run, stop, done, token, leaf, here, mark, step, unless, rule}
+use Rattle.c_grammar.proofs.Runs.{heads}
+use Rattle.c_grammar.proofs.Tables.{all_terminals, every_terminal, follows, can_end, fit_in, end_in, is_hard, can_have, one_from, one_empty_from, are_firsts_closed, are_empty_closed, are_follows_closed, are_ends_closed, has_one_way, has_one_empty}
 
 -- ---- tests
 
@@ -78,24 +78,26 @@ form_begins f p k t among h =
       | inr behind ↦ or_right (can_be (firsts f) t) (may_be_empty f && begins k t) (and_from (may_be_empty f) (begins k t) (empty_of_way f p among behind.0) behind.1)
     ]
 
--- ---- complete runs
+-- ---- runs of some words
 
-pub run_begins : (s : State) (q : List Symbol) (way : List Nested) (e : Ending) (vs : List Value) (w : Nested) (rest : List Nested)
-    → Run ways s q way e → e ≡ Complete vs → way ≡ w ∷ rest → begins q w.word.terminal ≡ true
-run_begins s q way e vs w rest (stop s' p) is long = cc
-run_begins s q way e vs w rest (done s') is long = cc
-run_begins s q way e vs w rest (token s' t v p r e' h more) is long =
+pub run_begins : (s : State) (q : List Symbol) (way : List Nested) (e : Ending) (w : Nested) (rest : List Nested)
+    → Run ways s q way e → way ≡ w ∷ rest → begins q w.word.terminal ≡ true
+run_begins s q way e w rest (stop s' p) long = cc
+run_begins s q way e w rest (done s') long = cc
+run_begins s q way e w rest (token s' t v p r e' h more) long =
     let first = heads (nested v (nesting s)) w r rest long in
     is_same w.word.terminal t (ap (λ (x : Nested). x.word.terminal) (sym first.0) ∙ h)
-run_begins s q way e vs w rest (leaf s' t v p r e' h more) is long =
+run_begins s q way e w rest (leaf s' t v p r e' h more) long =
     let first = heads (nested v (nesting s)) w r rest long in
     is_same w.word.terminal t (ap (λ (x : Nested). x.word.terminal) (sym first.0) ∙ h)
-run_begins s q way e vs w rest (here s' v p r e' more) is long = run_begins _ p way e vs w rest more is long
-run_begins s q way e vs w rest (mark s' m p r e' more) is long = run_begins _ p way e vs w rest more is long
-run_begins s q way e vs w rest (step s' b p r e' more) is long = run_begins _ p way e vs w rest more is long
-run_begins s q way e vs w rest (unless s' ts p r e' h more) is long = run_begins s p way e vs w rest more is long
-run_begins s q way e vs w rest (rule s' f parts p r e' among more) is long =
-    form_begins f parts p w.word.terminal among (run_begins s (parts ++ p) way e vs w rest more is long)
+run_begins s q way e w rest (here s' v p r e' more) long = run_begins _ p way e w rest more long
+run_begins s q way e w rest (mark s' m p r e' more) long = run_begins _ p way e w rest more long
+run_begins s q way e w rest (step s' b p r e' more) long = run_begins _ p way e w rest more long
+run_begins s q way e w rest (unless s' ts p r e' h more) long = run_begins s p way e w rest more long
+run_begins s q way e w rest (rule s' f parts p r e' among more) long =
+    form_begins f parts p w.word.terminal among (run_begins s (parts ++ p) way e w rest more long)
+
+-- ---- complete runs
 
 pub run_passes : (s : State) (q : List Symbol) (way : List Nested) (e : Ending) (vs : List Value)
     → Run ways s q way e → e ≡ Complete vs → way ≡ [] → passes q ≡ true

@@ -2,10 +2,10 @@
 use Rattle.std.specs.Prelude.{◌≡◌, ℕ, ◌+◌, ◌-◌, ◌≤◌, List, [], ◌∷◌, ◌++◌, map, Contains}
 use Rattle.std.specs.List.{All}
 use Rattle.c_ast.specs.declared.program.Item.{Item}
-use Rattle.c_parser.specs.declared.words.Word.{Word}
-use Rattle.c_parser.specs.declared.words.Terminal.{Terminal}
-use Rattle.c_parser.specs.Steps.{Value, Step, Place, Leaf, Items, build}
-use Rattle.c_parser.specs.Grammar.{Form, Program, Mark, In, Out, Ends, EndWhole, EndStar, EndStars, Symbol, T, L, N, M, B, Here, Unless, Table, rules}
+use Rattle.c_grammar.specs.declared.words.Word.{Word}
+use Rattle.c_grammar.specs.declared.words.Terminal.{Terminal}
+use Rattle.c_grammar.specs.Steps.{Value, Step, Place, Leaf, Items, build}
+use Rattle.c_grammar.specs.Grammar.{Form, Program, Mark, In, Out, CountOperator, ForgetOperators, CountStar, ForgetStars, Symbol, T, L, N, M, B, Here, Unless, Table, rules}
 
 -- where a reading is: how many parts that nest stand around, how many operators and suffixes have ended
 -- in the outermost expression, how many stars have ended in the pointer, and what is built
@@ -25,10 +25,10 @@ nesting s = s.depth + s.ended + s.stars
 abbrev pub after : Mark → State → State
 after In s = record s { depth = s.depth + 1 }
 after Out s = record s { depth = s.depth - 1 }
-after Ends s = record s { ended = s.ended + 1 }
-after EndWhole s = record s { ended = 0 }
-after EndStar s = record s { stars = s.stars + 1 }
-after EndStars s = record s { stars = 0 }
+after CountOperator s = record s { ended = s.ended + 1 }
+after ForgetOperators s = record s { ended = 0 }
+after CountStar s = record s { stars = s.stars + 1 }
+after ForgetStars s = record s { stars = 0 }
 
 abbrev pub add : Value → State → State
 add v s = record s { built = v ∷ s.built }
@@ -57,7 +57,8 @@ pub data Ending : Type 0 where
   -- at the end of all symbols: the words are a reading, which built this
   Complete : List Value → Ending
 
--- From a state, by these symbols, through these words, by a table. The symbols of a rule take the place of its form.
+-- A run reads words from left to right. The symbols are what is still to be read: one of its rules takes the place of a
+-- form, and a token takes a word.
 pub data Run (table : Table) : State → List Symbol → List Nested → Ending → Type 0 where
   stop : (s : State) (symbols : List Symbol) → Run table s symbols [] Anywhere
   done : (s : State) → Run table s [] [] (Complete s.built)

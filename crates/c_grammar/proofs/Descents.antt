@@ -4,18 +4,18 @@ use Rattle.std.specs.Prelude.{◌⊎◌}
 use Rattle.std.proofs.lemmas.List.{get_or_default}
 use Rattle.std.proofs.lemmas.List.Elements.{All-nil, All-cons, All-head, All-tail, All-weaker}
 use Rattle.c_ast.specs.declared.program.Item.{Item}
-use Rattle.c_parser.specs.declared.words.Word.{Word}
-use Rattle.c_parser.specs.declared.words.Terminal.{Terminal}
-use Rattle.c_parser.specs.Steps.{Value, Items, Leaf, Place, build}
-use Rattle.c_parser.specs.Grammar.{Program, Symbol, T, L, N, M, B, Here, Unless}
-use Rattle.c_parser.specs.Ways.{ways, way_at, way_number}
-use Rattle.c_parser.specs.Reading as reading
-use Rattle.c_parser.specs.Reading.{State, start, nesting, after, add, Nested, nested, words_of, BeginWith, Ending, Complete, Run, IsReading, IsWithin}
-use Rattle.c_parser.specs.Descent.{Stop, Accepts, Faults, Deep, Wants, plain, valued, Descent, accepts, left_over, token, deep, other, ended, here, nowhere, mark, step, unless, rule}
-use Rattle.c_parser.proofs.Runs.{heads, is_way}
-use Rattle.c_parser.proofs.WayLemmas.{to_ways, from_ways}
-use Rattle.c_parser.proofs.Begins.{Fit, fit_way}
-use Rattle.c_parser.proofs.Picks.{picks}
+use Rattle.c_grammar.specs.declared.words.Word.{Word}
+use Rattle.c_grammar.specs.declared.words.Terminal.{Terminal}
+use Rattle.c_grammar.specs.Steps.{Value, Items, Leaf, Place, build}
+use Rattle.c_grammar.specs.Grammar.{Program, Symbol, T, L, N, M, B, Here, Unless}
+use Rattle.c_grammar.specs.Ways.{ways, way_at, way_number}
+use Rattle.c_grammar.specs.Reading as reading
+use Rattle.c_grammar.specs.Reading.{State, start, nesting, after, add, Nested, nested, words_of, BeginWith, Ending, Complete, Run, IsReading, IsWithin}
+use Rattle.c_grammar.specs.Descent.{Stop, Accepts, Faults, Deep, Wants, plain, valued, Descent, accepts, left_over, token, deep, other, ended, here, nowhere, mark, step, unless, rule}
+use Rattle.c_grammar.proofs.Runs.{heads, is_way}
+use Rattle.c_grammar.proofs.WayLemmas.{to_ways, from_ways}
+use Rattle.c_grammar.proofs.Begins.{Fit, fit_way}
+use Rattle.c_grammar.proofs.Picks.{picks}
 
 -- ---- what is accepted is read
 
@@ -194,7 +194,7 @@ one_stop limit s q ws o o' (rule s' f p v r below more) d = one_stop limit s (wa
 
 -- ---- programs
 
-program_fits : Fit (N Program ∷ [])
+pub program_fits : Fit (N Program ∷ [])
 program_fits = (record { follows = λ t h. absurd cc; ends = λ h. refl }, tt)
 
 pub record ProgramRead (limit : ℕ) (words : List Word) (items : List Item) : Type 0 where
@@ -216,14 +216,14 @@ program_accepted limit words items way h low =
     (accepted limit start (N Program ∷ []) way (Complete (Items items ∷ [])) (Items items ∷ [])
     (to_ways start (N Program ∷ []) way (Complete (Items items ∷ [])) h.1) refl program_fits low)
 
-abbrev deepest : List Nested → ℕ
+abbrev pub deepest : List Nested → ℕ
 deepest [] = 0
 deepest (w ∷ way) = max w.nesting (deepest way)
 
-within_more : (m n : ℕ) (way : List Nested) → m ≤ n → IsWithin m way → IsWithin n way
+pub within_more : (m n : ℕ) (way : List Nested) → m ≤ n → IsWithin m way → IsWithin n way
 within_more m n way le h = All-weaker (λ w. w.nesting ≤ m) (λ w. w.nesting ≤ n) (λ w low. omega arith) way h
 
-within_deepest : (way : List Nested) → IsWithin (deepest way) way
+pub within_deepest : (way : List Nested) → IsWithin (deepest way) way
 within_deepest [] = All-nil (λ w. w.nesting ≤ 0)
 within_deepest (w ∷ way) =
     All-cons (λ v. v.nesting ≤ max w.nesting (deepest way)) w way (omega arith) (within_more (deepest way) (max w.nesting (deepest way)) way (omega arith) (within_deepest way))

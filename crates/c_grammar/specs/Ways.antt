@@ -2,12 +2,12 @@
 -- show that it reads the same; no public contract cites it.
 use Rattle.std.specs.Prelude.{ℕ, suc, Bool, true, false, ◌&&◌, ◌||◌, List, [], ◌∷◌, ◌++◌, get_or, if◌then◌else◌}
 use Rattle.std.specs.List.{list_any}
-use Rattle.c_parser.specs.declared.words.Word.{Word}
-use Rattle.c_parser.specs.declared.words.Terminal.{Terminal}
-use Rattle.c_parser.specs.declared.words.Terminal.TheVariants.{Name, Number, Character, String, Char, Int, Long, Void, Struct, Private, If, Else, While, For, Do, Return, Break, Continue, Sizeof, Plus, Minus, Star, Slash, Percent, Ampersand, Bar, Caret, Tilde, Exclamation, Less, Greater, Equals, Question, Semicolon, Comma, Dot, Open, Close, OpenBracket, OpenBrace, ShiftLeft, ShiftRight, LessEqual, GreaterEqual, EqualEqual, NotEqual, Both, Either, Arrow}
-use Rattle.c_parser.specs.Terminals.{same_terminal}
-use Rattle.c_parser.specs.Steps.{MakeCast}
-use Rattle.c_parser.specs.Grammar.{EitherLevel, BothLevel, OrLevel, XorLevel, AndLevel, EqualLevel, OrderLevel, ShiftLevel, SumLevel, ProductLevel, AfterPointer, AfterStars, AfterName, AfterParameters, AfterObject, AfterUnary, Form, At, Operands, Left, Program, Tops, Top, Structure, Members, Member, MoreDeclarators, Specifier, PerhapsPrivate, BaseType, Pointer, MoreStars, Declarator, PerhapsLength, Declaration, MoreObjects, Object, PerhapsStart, Prototype, Function, Parameters, Parameter, MoreParameters, ParameterTypes, MoreTypes, TypeName, PerhapsPointer, Block, BlockItems, Statement, AnyStatement, PerhapsElse, PerhapsWhole, Whole, Expression, Assign, Conditional, PerhapsChoice, Cast, Unary, Postfix, Suffixes, Arguments, MoreArguments, Primary, In, Out, Symbol, T, L, N, M, B, Here, Unless, Table, rules}
+use Rattle.c_grammar.specs.declared.words.Word.{Word}
+use Rattle.c_grammar.specs.declared.words.Terminal.{Terminal}
+use Rattle.c_grammar.specs.declared.words.Terminal.TheVariants.{Name, Number, Character, String, Char, Int, Long, Void, Struct, Private, If, Else, While, For, Do, Return, Break, Continue, Sizeof, Plus, Minus, Star, Slash, Percent, Ampersand, Bar, Caret, Tilde, Exclamation, Less, Greater, Equals, Question, Semicolon, Comma, Dot, Open, Close, OpenBracket, OpenBrace, ShiftLeft, ShiftRight, LessEqual, GreaterEqual, EqualEqual, NotEqual, Both, Either, Arrow}
+use Rattle.c_grammar.specs.Terminals.{same_terminal}
+use Rattle.c_grammar.specs.Steps.{MakeCast}
+use Rattle.c_grammar.specs.Grammar.{EitherLevel, BothLevel, OrLevel, XorLevel, AndLevel, EqualLevel, OrderLevel, ShiftLevel, SumLevel, ProductLevel, AfterPointer, AfterStars, AfterName, AfterParameters, AfterObject, AfterUnary, Form, At, Operands, Left, Program, Tops, Top, Structure, Members, Member, MoreDeclarators, Specifier, PerhapsPrivate, BaseType, Pointer, MoreStars, Declarator, PerhapsLength, Declaration, MoreObjects, Object, PerhapsStart, Prototype, Function, Parameters, Parameter, MoreParameters, ParameterTypes, MoreTypes, TypeName, PerhapsPointer, Block, BlockItems, Statement, AnyStatement, PerhapsElse, PerhapsWhole, Whole, Expression, Assign, Conditional, PerhapsChoice, Cast, Unary, Postfix, Suffixes, Arguments, MoreArguments, Primary, In, Out, Symbol, T, L, N, M, B, Here, Unless, Table, rules}
 
 -- what may come after a cast in an expression
 abbrev pub operands_left : List Symbol

@@ -1,11 +1,11 @@
 -- The one way in which words are read a word at a time, and where it stops. No public contract cites it.
 use Rattle.std.specs.Prelude.{◌≡◌, ◌≢◌, ℕ, ◌<◌, ◌≤◌, List, [], ◌∷◌, ◌++◌, length}
-use Rattle.c_parser.specs.declared.words.Word.{Word}
-use Rattle.c_parser.specs.declared.words.Terminal.{Terminal}
-use Rattle.c_parser.specs.Steps.{Value, Step, Leaf, Place, build}
-use Rattle.c_parser.specs.Grammar.{Form, Mark, Symbol, T, L, N, M, B, Here, Unless}
-use Rattle.c_parser.specs.Reading.{State, nesting, after, add, BeginWith}
-use Rattle.c_parser.specs.Ways.{ways, way_at, way_number}
+use Rattle.c_grammar.specs.declared.words.Word.{Word}
+use Rattle.c_grammar.specs.declared.words.Terminal.{Terminal}
+use Rattle.c_grammar.specs.Steps.{Value, Step, Leaf, Place, build}
+use Rattle.c_grammar.specs.Grammar.{Form, Mark, Symbol, T, L, N, M, B, Here, Unless}
+use Rattle.c_grammar.specs.Reading.{State, nesting, after, add, BeginWith}
+use Rattle.c_grammar.specs.Ways.{ways, way_at, way_number}
 
 -- how it ends: with what is built, or at a word, told by the number of words left there
 pub data Stop : Type 0 where

@@ -2,11 +2,11 @@
 use Rattle.std.proofs.Common.{lit<, ◌≡◌, ℕ, suc, ◌==◌, Bool, true, false, not, ◌&&◌, ◌||◌, List, [], ◌∷◌, refl}
 use Rattle.std.specs.Prelude.{Contains}
 use Rattle.std.specs.List.{list_all}
-use Rattle.c_parser.specs.declared.words.Terminal.{Terminal}
-use Rattle.c_parser.specs.declared.words.Terminal.TheVariants.{Name, Number, Character, String, Char, Int, Long, Void, Struct, Private, If, Else, While, For, Do, Return, Break, Continue, Sizeof, Plus, Minus, Star, Slash, Percent, Ampersand, Bar, Caret, Tilde, Exclamation, Less, Greater, Equals, Question, Colon, Semicolon, Comma, Dot, Open, Close, OpenBracket, CloseBracket, OpenBrace, CloseBrace, ShiftLeft, ShiftRight, LessEqual, GreaterEqual, EqualEqual, NotEqual, Both, Either, Arrow, Unused}
-use Rattle.c_parser.specs.Terminals.{same_terminal}
-use Rattle.c_parser.specs.Grammar.{EitherLevel, BothLevel, OrLevel, XorLevel, AndLevel, EqualLevel, OrderLevel, ShiftLevel, SumLevel, ProductLevel, AfterPointer, AfterStars, AfterName, AfterParameters, AfterObject, AfterUnary, Form, At, Operands, Left, Program, Tops, Top, Structure, Members, Member, MoreDeclarators, Specifier, PerhapsPrivate, BaseType, Pointer, MoreStars, Declarator, PerhapsLength, Declaration, MoreObjects, Object, PerhapsStart, Prototype, Function, Parameters, Parameter, MoreParameters, ParameterTypes, MoreTypes, TypeName, PerhapsPointer, Block, BlockItems, Statement, AnyStatement, PerhapsElse, PerhapsWhole, Whole, Expression, Assign, Conditional, PerhapsChoice, Cast, Unary, Postfix, Suffixes, Arguments, MoreArguments, Primary, Symbol, T, L, N, M, B, Here, Unless}
-use Rattle.c_parser.specs.Ways.{ways, firsts, may_be_empty, can_be, begins, passes, empty_way, begun_way}
+use Rattle.c_grammar.specs.declared.words.Terminal.{Terminal}
+use Rattle.c_grammar.specs.declared.words.Terminal.TheVariants.{Name, Number, Character, String, Char, Int, Long, Void, Struct, Private, If, Else, While, For, Do, Return, Break, Continue, Sizeof, Plus, Minus, Star, Slash, Percent, Ampersand, Bar, Caret, Tilde, Exclamation, Less, Greater, Equals, Question, Colon, Semicolon, Comma, Dot, Open, Close, OpenBracket, CloseBracket, OpenBrace, CloseBrace, ShiftLeft, ShiftRight, LessEqual, GreaterEqual, EqualEqual, NotEqual, Both, Either, Arrow, Unused}
+use Rattle.c_grammar.specs.Terminals.{same_terminal}
+use Rattle.c_grammar.specs.Grammar.{EitherLevel, BothLevel, OrLevel, XorLevel, AndLevel, EqualLevel, OrderLevel, ShiftLevel, SumLevel, ProductLevel, AfterPointer, AfterStars, AfterName, AfterParameters, AfterObject, AfterUnary, Form, At, Operands, Left, Program, Tops, Top, Structure, Members, Member, MoreDeclarators, Specifier, PerhapsPrivate, BaseType, Pointer, MoreStars, Declarator, PerhapsLength, Declaration, MoreObjects, Object, PerhapsStart, Prototype, Function, Parameters, Parameter, MoreParameters, ParameterTypes, MoreTypes, TypeName, PerhapsPointer, Block, BlockItems, Statement, AnyStatement, PerhapsElse, PerhapsWhole, Whole, Expression, Assign, Conditional, PerhapsChoice, Cast, Unary, Postfix, Suffixes, Arguments, MoreArguments, Primary, Symbol, T, L, N, M, B, Here, Unless}
+use Rattle.c_grammar.specs.Ways.{ways, firsts, may_be_empty, can_be, begins, passes, empty_way, begun_way}
 
 abbrev pub all_terminals : List Terminal
 all_terminals = Name ∷ Number ∷ Character ∷ String ∷ Char ∷ Int ∷ Long ∷ Void ∷ Struct ∷ Private ∷ If ∷ Else ∷ While ∷ For ∷ Do ∷ Return ∷ Break ∷ Continue ∷ Sizeof ∷ Plus ∷ Minus ∷ Star ∷ Slash ∷ Percent ∷ Ampersand ∷ Bar ∷ Caret ∷ Tilde ∷ Exclamation ∷ Less ∷ Greater ∷ Equals ∷ Question ∷ Colon ∷ Semicolon ∷ Comma ∷ Dot ∷ Open ∷ Close ∷ OpenBracket ∷ CloseBracket ∷ OpenBrace ∷ CloseBrace ∷ ShiftLeft ∷ ShiftRight ∷ LessEqual ∷ GreaterEqual ∷ EqualEqual ∷ NotEqual ∷ Both ∷ Either ∷ Arrow ∷ Unused ∷ []

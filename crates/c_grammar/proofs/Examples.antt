@@ -4,13 +4,13 @@ use Rattle.c_ast.specs.declared.program.Base.TheVariants as base
 use Rattle.c_ast.specs.declared.program.Shape.TheVariants as shape
 use Rattle.c_ast.specs.declared.program.Item.{Item}
 use Rattle.c_ast.specs.declared.program.Item.TheVariants as item
-use Rattle.c_parser.specs.declared.words.Word.{Word}
-use Rattle.c_parser.specs.declared.words.Terminal.{Terminal}
-use Rattle.c_parser.specs.declared.words.Terminal.TheVariants.{Int, Name, Semicolon}
-use Rattle.c_parser.specs.Grammar.{Program, rules}
-use Rattle.c_parser.specs.Grammar as form
-use Rattle.c_parser.specs.Reading.{Nested, nested, done, token, leaf, here, mark, step, IsReading}
-use Rattle.c_parser.proofs.Runs.{by_way}
+use Rattle.c_grammar.specs.declared.words.Word.{Word}
+use Rattle.c_grammar.specs.declared.words.Terminal.{Terminal}
+use Rattle.c_grammar.specs.declared.words.Terminal.TheVariants.{Int, Name, Semicolon}
+use Rattle.c_grammar.specs.Grammar.{Program, rules}
+use Rattle.c_grammar.specs.Grammar as form
+use Rattle.c_grammar.specs.Reading.{Nested, nested, done, token, leaf, here, mark, step, IsReading}
+use Rattle.c_grammar.proofs.Runs.{by_way}
 
 abbrev word : Terminal → ℕ → Word
 word t place = record { terminal = t; place = place; value = 0 }

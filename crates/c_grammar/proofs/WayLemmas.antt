@@ -2,12 +2,12 @@
 use Rattle.std.proofs.Common.{lit<, ◌≡◌, List, [], ◌∷◌, ◌++◌, refl, sym, subst, inl, inr, Bool, true, false, cond}
 use Rattle.std.specs.Prelude.{Contains, ◌⊎◌}
 use Rattle.c_lexer.proofs.Lists.{member_cases}
-use Rattle.c_parser.specs.declared.words.Terminal.TheVariants.{Name, Open, Close, Star, Semicolon, Equals}
-use Rattle.c_parser.specs.Steps.{First, MakeDeclarator, MakePointer, MakeInitialised, MakeDeclaration, MakeObject, MakePrototype, MakeFunction, MakeAssign}
-use Rattle.c_parser.specs.Grammar.{EitherLevel, BothLevel, OrLevel, XorLevel, AndLevel, EqualLevel, OrderLevel, ShiftLevel, SumLevel, ProductLevel, AfterPointer, AfterStars, AfterName, AfterParameters, AfterObject, AfterUnary, Form, Top, Structure, Specifier, Pointer, Declarator, Declaration, Object, Prototype, Function, PerhapsLength, PerhapsStart, PerhapsPrivate, MoreObjects, Parameters, ParameterTypes, Block, Assign, Conditional, At, Unary, Cast, Left, In, Out, Symbol, T, L, N, M, B, Table, rules}
-use Rattle.c_parser.specs.Ways.{operands_left, typed_operand, ways}
-use Rattle.c_parser.specs.Reading.{State, Nested, Ending, Run, stop, done, token, leaf, here, mark, step, unless, rule}
-use Rattle.c_parser.proofs.Runs.{split, exchange, only, either, one_is, two_are, by_way}
+use Rattle.c_grammar.specs.declared.words.Terminal.TheVariants.{Name, Open, Close, Star, Semicolon, Equals}
+use Rattle.c_grammar.specs.Steps.{First, MakeDeclarator, MakePointer, MakeInitialised, MakeDeclaration, MakeObject, MakePrototype, MakeFunction, MakeAssign}
+use Rattle.c_grammar.specs.Grammar.{EitherLevel, BothLevel, OrLevel, XorLevel, AndLevel, EqualLevel, OrderLevel, ShiftLevel, SumLevel, ProductLevel, AfterPointer, AfterStars, AfterName, AfterParameters, AfterObject, AfterUnary, Form, Top, Structure, Specifier, Pointer, Declarator, Declaration, Object, Prototype, Function, PerhapsLength, PerhapsStart, PerhapsPrivate, MoreObjects, Parameters, ParameterTypes, Block, Assign, Conditional, At, Unary, Cast, Left, In, Out, Symbol, T, L, N, M, B, Table, rules}
+use Rattle.c_grammar.specs.Ways.{operands_left, typed_operand, ways}
+use Rattle.c_grammar.specs.Reading.{State, Nested, Ending, Run, stop, done, token, leaf, here, mark, step, unless, rule}
+use Rattle.c_grammar.proofs.Runs.{split, exchange, only, either, one_is, two_are, by_way}
 
 -- ---- assignments
 

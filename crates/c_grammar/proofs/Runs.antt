@@ -1,12 +1,12 @@
 -- Runs by any table: what follows some symbols may be exchanged, and a form for its only way.
 use Rattle.std.proofs.lemmas.List.{get_or_default}
-use Rattle.c_parser.specs.Ways.{way_at}
+use Rattle.c_grammar.specs.Ways.{way_at}
 use Rattle.std.proofs.Common.{length, ◌<◌, ◌≡◌, ℕ, List, [], ◌∷◌, ◌++◌, refl, sym, ap, subst, ◌∙◌, append_assoc, inl, inr, Bool, true, false, cond}
 use Rattle.std.specs.Prelude.{Contains, ◌⊎◌}
 use Rattle.c_lexer.proofs.Lists.{member_cases, no_member, first_member}
-use Rattle.c_parser.specs.Steps.{Leaf, Place, build}
-use Rattle.c_parser.specs.Grammar.{Form, Symbol, T, L, N, M, B, Here, Unless, Table}
-use Rattle.c_parser.specs.Reading.{State, nesting, after, add, Nested, nested, Ending, Run, stop, done, token, leaf, here, mark, step, unless, rule}
+use Rattle.c_grammar.specs.Steps.{Leaf, Place, build}
+use Rattle.c_grammar.specs.Grammar.{Form, Symbol, T, L, N, M, B, Here, Unless, Table}
+use Rattle.c_grammar.specs.Reading.{State, nesting, after, add, Nested, nested, Ending, Run, stop, done, token, leaf, here, mark, step, unless, rule}
 
 pub one_is : (a b : List Symbol) → Contains (a ∷ []) b → a ≡ b
 one_is a b h = elim (member_cases a [] b h) [ inl is ↦ is | inr more ↦ absurd (no_member b more) ]

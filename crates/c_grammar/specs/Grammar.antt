@@ -10,10 +10,10 @@ use Rattle.c_ast.specs.declared.program.Base.TheVariants as base
 use Rattle.c_ast.specs.declared.program.TypeShape as type_shape
 use Rattle.c_ast.specs.declared.program.Shape.TheVariants as shape
 use Rattle.c_ast.specs.declared.program.StatementKind as statement
-use Rattle.c_parser.specs.declared.words.Terminal.{Terminal}
-use Rattle.c_parser.specs.declared.words.Terminal.TheVariants.{Name, Number, Character, String, Char, Int, Long, Void, Struct, Private, If, Else, While, For, Do, Return, Break, Continue, Sizeof, Plus, Minus, Star, Slash, Percent, Ampersand, Bar, Caret, Tilde, Exclamation, Less, Greater, Equals, Question, Colon, Semicolon, Comma, Dot, Open, Close, OpenBracket, CloseBracket, OpenBrace, CloseBrace, ShiftLeft, ShiftRight, LessEqual, GreaterEqual, EqualEqual, NotEqual, Both, Either, Arrow}
-use Rattle.c_parser.specs.Steps.{Value, Step, Give, First, Push, MakeStruct, MakeSpecifier, MakeArray, MakeDeclarator, MakePointer, MakePointerType, MakeType, MakeMember, MakeInitialised, MakeDeclaration, MakeParameter, MakeName, MakeNumber, MakeCharacter, MakeString, MakeBracket, MakePrefix, MakeSizeof, MakeCast, MakeInfix, MakeChoice, MakeAssign, MakeIndex, MakeCall, MakeDot, MakeArrow, MakeSome, MakeBlock, MakeNested, MakeEval, MakeIf, MakeIfElse, MakeWhile, MakeDoWhile, MakeFor, MakeReturn, MakeStatement, MakeStructure, MakeObject, MakePrototype, MakeFunction}
-use Rattle.c_parser.specs.Steps as part
+use Rattle.c_grammar.specs.declared.words.Terminal.{Terminal}
+use Rattle.c_grammar.specs.declared.words.Terminal.TheVariants.{Name, Number, Character, String, Char, Int, Long, Void, Struct, Private, If, Else, While, For, Do, Return, Break, Continue, Sizeof, Plus, Minus, Star, Slash, Percent, Ampersand, Bar, Caret, Tilde, Exclamation, Less, Greater, Equals, Question, Colon, Semicolon, Comma, Dot, Open, Close, OpenBracket, CloseBracket, OpenBrace, CloseBrace, ShiftLeft, ShiftRight, LessEqual, GreaterEqual, EqualEqual, NotEqual, Both, Either, Arrow}
+use Rattle.c_grammar.specs.Steps.{Value, Step, Give, First, Push, MakeStruct, MakeSpecifier, MakeArray, MakeDeclarator, MakePointer, MakePointerType, MakeType, MakeMember, MakeInitialised, MakeDeclaration, MakeParameter, MakeName, MakeNumber, MakeCharacter, MakeString, MakeBracket, MakePrefix, MakeSizeof, MakeCast, MakeInfix, MakeChoice, MakeAssign, MakeIndex, MakeCall, MakeDot, MakeArrow, MakeSome, MakeBlock, MakeNested, MakeEval, MakeIf, MakeIfElse, MakeWhile, MakeDoWhile, MakeFor, MakeReturn, MakeStatement, MakeStructure, MakeObject, MakePrototype, MakeFunction}
+use Rattle.c_grammar.specs.Steps as part
 
 -- the levels of operators that go from left to right, the loosest first
 pub data Level : Type 0 where
@@ -88,20 +88,20 @@ pub data Form : Type 0 where
   Arguments : Form
   MoreArguments : Form
   Primary : Form
-  -- no rule of the grammar names these
+  -- for who reads a token at a time; no rule of another form leads to these
   Left : Rest → Form
 
 -- what counts in the nesting
 pub data Mark : Type 0 where
-  -- from here on a part that nests its tokens one deeper, up to `Out`
+  -- from here on a part that nests its tokens one deeper, up to its `Out`
   In : Mark
   Out : Mark
-  -- an operator of a level, or a suffix, ends here; from the end of the outermost expression none counts
-  Ends : Mark
-  EndWhole : Mark
-  -- a star ends here; from the end of the pointer none counts
-  EndStar : Mark
-  EndStars : Mark
+  -- an operator of a level, or a suffix, ends here; at the end of the outermost expression all are forgotten
+  CountOperator : Mark
+  ForgetOperators : Mark
+  -- a star ends here; at the end of the pointer all are forgotten
+  CountStar : Mark
+  ForgetStars : Mark
 
 -- a rule is a list of symbols
 pub data Symbol : Type 0 where
@@ -111,11 +111,13 @@ pub data Symbol : Type 0 where
   L : Terminal → Symbol
   -- a form
   N : Form → Symbol
+  -- what counts in the nesting from here on
   M : Mark → Symbol
+  -- a step that builds
   B : Step → Symbol
   -- the place of the next token is a part
   Here : Symbol
-  -- these tokens don't come next
+  -- the next tokens are not these
   Unless : List Terminal → Symbol
 
 -- an operator and its sign
@@ -157,7 +159,7 @@ operand ProductLevel = Cast
 
 abbrev pub then_operand : Level → Operator → List Symbol
 then_operand level o =
-    T o.sign ∷ M Ends ∷ N (operand level) ∷ B (MakeInfix o.op) ∷ N (Operands level) ∷ []
+    T o.sign ∷ M CountOperator ∷ N (operand level) ∷ B (MakeInfix o.op) ∷ N (Operands level) ∷ []
 
 -- a sign before its operand
 abbrev pub prefix : Terminal → PrefixOp → List Symbol
@@ -195,8 +197,8 @@ rules BaseType =
     ∷ (T Void ∷ B (Give (part.OfBase base.Void)) ∷ [])
     ∷ (T Struct ∷ L Name ∷ B MakeStruct ∷ []) ∷ []
 -- ptr = { "*" ["private"] }
-rules Pointer = (B (Give (part.Stars [])) ∷ N MoreStars ∷ M EndStars ∷ []) ∷ []
-rules MoreStars = (T Star ∷ M EndStar ∷ N PerhapsPrivate ∷ B Push ∷ N MoreStars ∷ []) ∷ [] ∷ []
+rules Pointer = (B (Give (part.Stars [])) ∷ N MoreStars ∷ M ForgetStars ∷ []) ∷ []
+rules MoreStars = (T Star ∷ M CountStar ∷ N PerhapsPrivate ∷ B Push ∷ N MoreStars ∷ []) ∷ [] ∷ []
 -- dtor = ptr ID [ "[" NUM "]" ] | ptr "(" "*" ["private"] ID ")" "(" ptypes ")"
 rules Declarator =
     (N Pointer ∷ L Name ∷ N PerhapsLength ∷ B MakeDeclarator ∷ [])
@@ -259,7 +261,7 @@ rules AnyStatement =
 -- an `else` goes with the nearest `if`
 rules PerhapsElse = (T Else ∷ N Statement ∷ B MakeIfElse ∷ []) ∷ (Unless (Else ∷ []) ∷ B MakeIf ∷ []) ∷ []
 rules PerhapsWhole = (N Whole ∷ B MakeSome ∷ []) ∷ (B (Give (part.Perhaps None)) ∷ []) ∷ []
-rules Whole = (N Expression ∷ M EndWhole ∷ []) ∷ []
+rules Whole = (N Expression ∷ M ForgetOperators ∷ []) ∷ []
 -- expr = assign
 rules Expression = (N Assign ∷ []) ∷ []
 -- assign = unary "=" assign | cond
@@ -283,10 +285,10 @@ rules Unary =
 -- postfix = primary { "[" expr "]" | "(" [assign {"," assign}] ")" | "." ID | "->" ID }
 rules Postfix = (N Primary ∷ N Suffixes ∷ []) ∷ []
 rules Suffixes =
-    (T OpenBracket ∷ N Expression ∷ T CloseBracket ∷ M Ends ∷ B MakeIndex ∷ N Suffixes ∷ [])
-    ∷ (T Open ∷ N Arguments ∷ T Close ∷ M Ends ∷ B MakeCall ∷ N Suffixes ∷ [])
-    ∷ (T Dot ∷ L Name ∷ M Ends ∷ B MakeDot ∷ N Suffixes ∷ [])
-    ∷ (T Arrow ∷ L Name ∷ M Ends ∷ B MakeArrow ∷ N Suffixes ∷ []) ∷ [] ∷ []
+    (T OpenBracket ∷ N Expression ∷ T CloseBracket ∷ M CountOperator ∷ B MakeIndex ∷ N Suffixes ∷ [])
+    ∷ (T Open ∷ N Arguments ∷ T Close ∷ M CountOperator ∷ B MakeCall ∷ N Suffixes ∷ [])
+    ∷ (T Dot ∷ L Name ∷ M CountOperator ∷ B MakeDot ∷ N Suffixes ∷ [])
+    ∷ (T Arrow ∷ L Name ∷ M CountOperator ∷ B MakeArrow ∷ N Suffixes ∷ []) ∷ [] ∷ []
 rules Arguments =
     (N Assign ∷ B First ∷ N MoreArguments ∷ []) ∷ (B (Give (part.Arguments [])) ∷ []) ∷ []
 rules MoreArguments = (T Comma ∷ N Assign ∷ B Push ∷ N MoreArguments ∷ []) ∷ [] ∷ []

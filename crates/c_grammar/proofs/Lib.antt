@@ -1,0 +1,10 @@
+pub mod Runs
+pub mod WayLemmas
+pub mod Tables
+pub mod Begins
+pub mod Picks
+pub mod FrontPicks
+pub mod Fronts
+pub mod FaultLemmas
+pub mod Descents
+pub mod Examples
