@@ -26,6 +26,3 @@ mod types;
 pub use errors::ParseError;
 pub use laws::one_answer;
 pub use parsing::parse;
-
-#[cfg(test)]
-mod tests;

@@ -1,6 +1,6 @@
 //! Each rule of the grammar in its least form and in a long one.
 
-use crate::tests::trees::{body_length, program_of, with_body, with_value};
+use crate::trees::{body_length, program_of, with_body, with_value};
 use std::alloc::Global;
 use std::process::Abort;
 use std::test::Fail;

@@ -1,7 +1,7 @@
 //! Long sources, and sources that are nested 200 deep and one deeper.
 
-use crate::errors::ParseError;
-use crate::tests::trees::{body_length, program_of, refusal};
+use crate::trees::{body_length, program_of, refusal};
+use c_parser::ParseError;
 use std::alloc::Global;
 use std::process::Abort;
 use std::test::Fail;

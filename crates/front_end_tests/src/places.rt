@@ -1,6 +1,6 @@
 //! Where nodes lie: an expression and a statement at their first byte, a declared thing at its name.
 
-use crate::tests::trees::{
+use crate::trees::{
     check_returned, first_of, first_statement, program_of, returned, with_body, with_value,
     write_node,
 };

@@ -1,12 +1,11 @@
 //! Sources and the parts of their trees, for the tables.
 
-use crate::errors::ParseError;
-use crate::parsing::parse;
 use c_ast::Program;
 use c_ast::program::{
     Block, BlockItem, Expression, ExpressionKind, InfixOp, Item, PrefixOp, Statement, StatementKind,
 };
 use c_lexer::lex;
+use c_parser::{ParseError, parse};
 use std::alloc::Global;
 use std::fmt::Write;
 use std::process::Abort;

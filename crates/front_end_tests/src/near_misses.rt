@@ -1,7 +1,7 @@
 //! Sources that miss a rule by a token or two, each with the number of the token at which it stops.
 
-use crate::errors::ParseError;
-use crate::tests::trees::{refusal, with_body, with_value};
+use crate::trees::{refusal, with_body, with_value};
+use c_parser::ParseError;
 use std::alloc::Global;
 use std::process::Abort;
 use std::test::Fail;

@@ -1,15 +1,9 @@
-mod leaning;
-mod long_sources;
-mod near_misses;
-mod places;
-mod productions;
-mod trees;
+//! What whole sources are.
 
-use crate::grammar::one_program;
-use crate::parsing::parse;
 use c_ast::Text;
 use c_ast::program::Item;
 use c_lexer::lex;
+use c_parser::{one_program, parse};
 use std::alloc::Global;
 use std::fmt::Write;
 use std::test::Fail;

@@ -1,6 +1,6 @@
 //! How operators lean.
 
-use crate::tests::trees::{check_returned, with_value};
+use crate::trees::{check_returned, with_value};
 use std::alloc::Global;
 use std::fmt::Write;
 use std::process::Abort;
