@@ -5,11 +5,15 @@
 #![tactic(auto)]
 
 #[cfg(test)]
+mod faults;
+#[cfg(test)]
 mod leaning;
 #[cfg(test)]
 mod long_sources;
 #[cfg(test)]
 mod near_misses;
+#[cfg(test)]
+mod nesting;
 #[cfg(test)]
 mod places;
 #[cfg(test)]

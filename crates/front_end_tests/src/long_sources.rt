@@ -169,8 +169,8 @@ static EXPRESSIONS: [Nested; 8] = [
         token: 402,
     },
     Nested {
-        before: "int main(){ return a",
-        open: " + a",
+        before: "int main(){ return 1",
+        open: "+1",
         middle: "",
         close: "",
         after: "; }",
