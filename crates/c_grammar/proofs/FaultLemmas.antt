@@ -104,9 +104,9 @@ end_or_before : (limit : ℕ) (words : List Word) (t : ℕ) → IsSyntaxFault li
 end_or_before limit words t h =
     elim h.stuck [
       | inl no_front ↦ elim (cases_lt (length words) t) [
-            | inl past ↦ absurd (no_front (subst IsFront (take_all t words (omega (arith, past)) ∙ sym (take_all (t + 1) words (omega (arith, past)))) h.front))
-            | inr within ↦ within
-          ]
+        | inl past ↦ absurd (no_front (subst IsFront (take_all t words (omega (arith, past)) ∙ sym (take_all (t + 1) words (omega (arith, past)))) h.front))
+        | inr within ↦ within
+      ]
       | inr end ↦ omega (arith, end.0)
     ]
 
@@ -172,9 +172,9 @@ program_no_syntax limit words t reads = λ h.
     subst IsFront (sym (take_all (length words) words (omega arith))) (reads.1, (reads.2.0, run_front reads.1 (Complete (Items reads.0 ∷ [])) reads.2.1)) in
     elim h.stuck [
       | inl no_front ↦ elim (cases_lt t (length words)) [
-            | inl inside ↦ no_front (front_of_front words (length words) (t + 1) (omega (arith, inside)) whole)
-            | inr past ↦ no_front (subst IsFront (take_all (length words) words (omega arith) ∙ sym (take_all (t + 1) words (omega (arith, past)))) whole)
-          ]
+        | inl inside ↦ no_front (front_of_front words (length words) (t + 1) (omega (arith, inside)) whole)
+        | inr past ↦ no_front (subst IsFront (take_all (length words) words (omega arith) ∙ sym (take_all (t + 1) words (omega (arith, past)))) whole)
+      ]
       | inr end ↦ end.1 reads
     ]
 
@@ -263,9 +263,10 @@ syntax_fault limit words n d =
 longer_front : (words : List Word) (t : ℕ) (way : List Nested) → length way ≡ t + 1 → Longer start (N Program ∷ []) words way → IsFront (take (t + 2) words) × (t + 2 ≤ length words)
 longer_front words t way long l =
     let run = from_ways start (N Program ∷ []) l.longer Anywhere l.run in
-    let inside : t + 2 ≤ length l.longer = omega (arith, l.more, long) in
-    ((take (t + 2) l.longer, front_way l.longer l.rest words Anywhere (t + 2) l.words inside run),
-    omega (arith, inside, ap length l.words, length-append (words_of l.longer) l.rest, length-map l.longer (λ w. w.word)))
+    let inside : t + 2 ≤ length l.longer = omega (arith, l.more, long) in (
+      (take (t + 2) l.longer, front_way l.longer l.rest words Anywhere (t + 2) l.words inside run),
+      omega (arith, inside, ap length l.words, length-append (words_of l.longer) l.rest, length-map l.longer (λ w. w.word)),
+    )
 
 pub depth_fault : (limit : ℕ) (words : List Word) (n : ℕ) → Descent limit start (N Program ∷ []) words (Deep n) → IsDepthFault limit words (length words - n)
 depth_fault limit words n d =

@@ -42,9 +42,11 @@ next_of s q l e w way (token s' t v p r e' h more) is =
     let same = heads (nested v (nesting s)) w r way is in
     (subst (λ (x : Nested). x.word.terminal ≡ t) same.0 h, subst (λ (x : Nested). x.nesting ≡ nesting s) same.0 refl, subst (λ (x : List Nested). Run ways s p x e) same.1 more)
 next_of s q l e w way (leaf s' t v p r e' h more) is =
-    let same = heads (nested v (nesting s)) w r way is in
-    (subst (λ (x : Nested). x.word.terminal ≡ t) same.0 h, subst (λ (x : Nested). x.nesting ≡ nesting s) same.0 refl,
-    subst (λ (x : Nested). Run ways (add (Leaf x.word.place x.word.value) s) p way e) same.0 (subst (λ (x : List Nested). Run ways (add (Leaf v.place v.value) s) p x e) same.1 more))
+    let same = heads (nested v (nesting s)) w r way is in (
+      subst (λ (x : Nested). x.word.terminal ≡ t) same.0 h,
+      subst (λ (x : Nested). x.nesting ≡ nesting s) same.0 refl,
+      subst (λ (x : Nested). Run ways (add (Leaf x.word.place x.word.value) s) p way e) same.0 (subst (λ (x : List Nested). Run ways (add (Leaf v.place v.value) s) p x e) same.1 more),
+    )
 next_of s q l e w way (here s' v p r e' more) is =
     let same = heads v w r way is in
     subst (λ (x : Nested). Run ways (add (Place x.word.place) s) p (w ∷ way) e) same.0 (subst (λ (x : List Nested). Run ways (add (Place v.word.place) s) p x e) is more)

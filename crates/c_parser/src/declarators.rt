@@ -10,8 +10,8 @@ use crate::errors::ParseError;
 use crate::spot::{NESTING, Spot, next_is, take};
 use crate::type_names::parameter_types;
 use crate::types::{perhaps_private, pointer, specifier};
-use c_grammar::{Terminal, Word};
 use c_ast::program::{Declarator, Parameter, Shape};
+use c_grammar::{Terminal, Word};
 use std::alloc::Global;
 
 /// `[LENGTH]`, or nothing.

@@ -18,9 +18,9 @@ use crate::operators::{
 };
 use crate::spot::{NESTING, Spot, fault, next_is, take, take_here};
 use crate::type_names::type_name;
-use c_grammar::{Terminal, Word};
 use c_ast::program::{Expression, ExpressionKind, PrefixOp};
 use c_ast::{Boxed, Items};
+use c_grammar::{Terminal, Word};
 use std::alloc::Global;
 
 /// An expression, and the place where its text begins, brackets included.

@@ -19,9 +19,9 @@ use crate::statements::block;
 use crate::structures::structure;
 use crate::type_names::parameter_types;
 use crate::types::{perhaps_private, pointer, specifier};
-use c_grammar::{Terminal, Word};
 use c_ast::Items;
 use c_ast::program::{Declaration, Declarator, Header, Initialised, Item, Shape, Specifier, Star};
+use c_grammar::{Terminal, Word};
 use std::alloc::Global;
 
 /// The initialiser of the first object, and the objects behind it.

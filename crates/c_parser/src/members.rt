@@ -11,9 +11,9 @@ use crate::declarators::{declarator, parameter};
 use crate::errors::ParseError;
 use crate::spot::{NESTING, Spot, next_is, take};
 use crate::types::{begins_type, is_bare_void, specifier};
-use c_grammar::{Terminal, Word};
 use c_ast::Items;
 use c_ast::program::{Declarator, MemberDeclaration, Parameter};
+use c_grammar::{Terminal, Word};
 use std::alloc::Global;
 
 /// The declared names behind the first one.

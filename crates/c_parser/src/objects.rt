@@ -13,9 +13,9 @@ use crate::expressions::{Placed, expression};
 use crate::operators::begins_expression;
 use crate::spot::{NESTING, Spot, next_is, take};
 use crate::types::specifier;
-use c_grammar::{Terminal, Word};
 use c_ast::program::{Declaration, Expression, Initialised};
 use c_ast::{Boxed, Items};
+use c_grammar::{Terminal, Word};
 use std::alloc::Global;
 
 /// An expression that no other contains.

@@ -7,8 +7,8 @@ ghost use Rattle.std.specs.Prelude.{◌≡◌, ◌^◌, ◌<◌, ◌≤◌, drop
 
 use crate::spot::next_is;
 use crate::types::begins_type;
-use c_grammar::{Terminal, Word};
 use c_ast::program::{InfixOp, PrefixOp};
+use c_grammar::{Terminal, Word};
 
 /// An operator between two operands, and the number of its level. The tightest level is 0.
 #[derive(Clone, Copy, Debug)]

@@ -9,9 +9,9 @@ use crate::errors::ParseError;
 use crate::items::top;
 use crate::spot::{NESTING, Spot, fault};
 use crate::types::begins_type;
-use c_grammar::Word;
 use c_ast::Items;
 use c_ast::program::Item;
+use c_grammar::Word;
 use std::alloc::Global;
 
 /// The items of the program that words are, where no word of it is nested above 200.

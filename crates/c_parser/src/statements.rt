@@ -17,9 +17,9 @@ use crate::objects::{declaration, perhaps_whole, whole};
 use crate::operators::{begins_evaluation, begins_item};
 use crate::spot::{NESTING, Spot, next_is, place_here, take, take_here};
 use crate::types::begins_type;
-use c_grammar::{Terminal, Word};
 use c_ast::program::{Block, BlockItem, Statement, StatementKind};
 use c_ast::{Boxed, Items};
+use c_grammar::{Terminal, Word};
 use std::alloc::Global;
 
 /// An expression and `;`, or `;` alone.

@@ -11,9 +11,9 @@ use crate::errors::ParseError;
 use crate::members::member_line;
 use crate::spot::{NESTING, Spot, take};
 use crate::types::begins_type;
-use c_grammar::{Terminal, Word};
 use c_ast::Items;
 use c_ast::program::{Item, MemberDeclaration, StructDefinition};
+use c_grammar::{Terminal, Word};
 use std::alloc::Global;
 
 /// The members behind the first line of them.

@@ -8,8 +8,8 @@ ghost use Rattle.c_parser.specs.Words.{Adds, names_with, value_in};
 ghost use Rattle.std.specs.Prelude.{◌≡◌, ◌++◌, ◌∷◌, [], ℕ, List, length, map, OnOk, IfOk};
 
 use crate::terminals::terminal_of;
-use c_grammar::Word;
 use c_ast::{Items, Text};
+use c_grammar::Word;
 use c_lexer::{Token, TokenKind, string_bytes};
 use cv_word::NoMemory;
 use indexmap::IndexSet;

@@ -9,9 +9,9 @@ ghost use Rattle.std.specs.Prelude.{◌≡◌, ◌≤◌, [], ◌∷◌, IfErr, 
 use crate::errors::ParseError;
 use crate::spot::{NESTING, Spot, next_is, take};
 use crate::types::{begins_type, is_bare_void, perhaps_private, pointer, specifier};
-use c_grammar::{Terminal, Word};
 use c_ast::Items;
 use c_ast::program::{TypeName, TypeShape};
+use c_grammar::{Terminal, Word};
 use std::alloc::Global;
 
 /// `(*)(..)` behind a type, or nothing.

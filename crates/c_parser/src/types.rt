@@ -9,9 +9,9 @@ ghost use Rattle.std.specs.Prelude.{◌≡◌, ◌^◌, ◌<◌, [], ◌∷◌, 
 
 use crate::errors::ParseError;
 use crate::spot::{NESTING, Spot, fault, next_is, take};
-use c_grammar::{Terminal, Word};
 use c_ast::Items;
 use c_ast::program::{Base, Specifier, Star};
+use c_grammar::{Terminal, Word};
 use std::alloc::Global;
 
 /// Whether `private` stands here.

@@ -2,8 +2,9 @@
 
 use c_ast::Text;
 use c_ast::program::Item;
+use c_grammar::{one_fault, one_program, program_has_no_fault};
 use c_lexer::lex;
-use c_parser::{one_program, parse};
+use c_parser::{one_answer, parse};
 use std::alloc::Global;
 use std::fmt::Write;
 use std::test::Fail;
@@ -92,6 +93,9 @@ fn brackets(alloc: Global, count: usize) -> Result<Vec<u8>, Fail> {
 #[test]
 fn programs(rt: HostRuntime) -> Result<(), Fail> {
     one_program();
+    one_fault();
+    program_has_no_fault();
+    one_answer();
     let alloc = rt.alloc();
     check(&rt, alloc, b"", "0 ")?;
     check(&rt, alloc, b"int main(){ return 1; }", "main 0 0 ")?;
