@@ -5,7 +5,7 @@ use Rattle.qual_solve.specs.declared.leak.SolveError.{SolveError}
 use Rattle.qual_solve.specs.declared.leak.SolveError.TheVariants.{NoMemory, Leak}
 use Rattle.qual_solve.specs.Leaks.{IsLeak}
 
--- memory may be refused at any time; a leak is told with its constraint and its chain
+-- what an error means: want of memory says nothing, and a leak names its constraint and its chain
 abbrev pub IsReason : ℕ → List Constraint → SolveError → Type 0
 IsReason vars list NoMemory = Unit {0}
 IsReason vars list (Leak at chain) = IsLeak vars list at chain

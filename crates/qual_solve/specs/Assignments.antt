@@ -21,7 +21,7 @@ pub record IsOver (vars : ℕ) (constraint : Constraint) : Type 0 where
 abbrev pub IsAssignment : ℕ → List Taint → Type 0
 IsAssignment vars assignment = length assignment ≡ vars
 
--- the taint of an end under an assignment
+-- the taint of an end under an assignment; public for a variable that the assignment lacks
 abbrev pub taint_of : List Taint → Qual → Taint
 taint_of assignment (Fixed taint) = taint
 taint_of assignment (Var variable) = slice_index_or assignment variable Pub
@@ -34,7 +34,7 @@ IsPrivate assignment end = taint_of assignment end ≡ Priv
 abbrev pub IsPublic : List Taint → Qual → Type 0
 IsPublic assignment end = taint_of assignment end ≡ Pub
 
--- an assignment meets a constraint: the left end isn't private while the right end is public
+-- an assignment meets a constraint: it isn't so that the left end is private and the right end public
 abbrev pub Meets : List Taint → Constraint → Type 0
 Meets assignment constraint = IsPrivate assignment constraint.from → IsPublic assignment constraint.to → ⊥
 

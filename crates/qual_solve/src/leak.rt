@@ -7,7 +7,7 @@ use cv_word::NoMemory;
 use std::marker::Model;
 use thiserror::Error;
 
-/// The numbers of the constraints that lead to a leak, each from 0. Contracts see it as their list.
+/// The constraints that lead to a leak, by their numbers. Contracts see it as the list of these.
 #[derive(Debug, Drop)]
 pub struct Chain {
     numbers: Vec<u64>,
@@ -43,9 +43,11 @@ pub enum SolveError {
     /// Memory was refused. With ample memory it isn't.
     #[error("no memory")]
     NoMemory,
-    /// No assignment satisfies the list. `at` is the number of the first constraint with the constant public as its
-    /// right end whose left end has to be private; constraints are numbered from 0. `chain` leads from the constant
-    /// private to it and ends with `at`: the shortest such list of numbers, and of those the first in dictionary order.
+    /// No assignment satisfies the list. Constraints are numbered from 0. `at` is the number of the first constraint
+    /// with the constant public as its right end whose left end is private in every assignment that meets all
+    /// constraints but those to the constant public. `chain` leads from the constant private to it and ends with `at`:
+    /// the shortest such list of numbers, and of those the first in dictionary order. It may pass through the constant
+    /// public where that makes it shorter.
     #[error("leak at constraint {at}")]
     Leak { at: u64, chain: Chain },
 }

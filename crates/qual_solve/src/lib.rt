@@ -1,10 +1,9 @@
 //! The least assignment of taints to variables that satisfies a list of constraints, or the chain that shows why none does.
 //!
 //! A constraint says that what is private at its left end is private at its right end too. [`solve`] answers the
-//! assignment that is private only where every one that satisfies the list is. Where none satisfies it, the error tells
-//! the first constraint to the constant public whose left end has to be private, and the shortest chain of constraints
-//! that leads to it from the constant private. [`one_answer`] says that a list has one such answer and no other. The
-//! time is linear in the variables and the constraints, and nothing recurses.
+//! assignment that satisfies the list and is private only where every one that does is. Where none does, the error
+//! names the first constraint that must break, and the shortest chain of constraints that leads to it from the constant
+//! private. [`one_answer`] says that a list has one such answer at most. Nothing recurses.
 #![tactic(auto)]
 
 mod chain;

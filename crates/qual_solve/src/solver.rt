@@ -81,8 +81,9 @@ fn assignment(alloc: Global, distances: &[usize]) -> Result<Vec<Taint>, NoMemory
 /// The least assignment that satisfies the constraints, with a taint for each of `vars` variables. Each variable in the
 /// list is below `vars`.
 ///
-/// `NoMemory` comes where memory was refused, and never with ample memory. `Leak` comes exactly where no assignment
-/// satisfies the list. The time is linear in the variables and the constraints.
+/// `Leak` comes exactly where no assignment satisfies the list; [`SolveError::Leak`] says which constraint and which
+/// chain it names. No clause says when `NoMemory` comes; with ample memory it doesn't. The time is linear in the
+/// variables and the constraints, which is tested and not proved.
 pub fn solve(alloc: Global, vars: u32, list: &[Constraint]) -> Result<Vec<Taint>, SolveError>
     requires { All (IsOver vars) list.now }
     ensures least { IfOk result (λ assignment. IsLeast vars list.now assignment.items) }
