@@ -7,7 +7,7 @@ top=$(cd "$(dirname "$0")/.." && pwd)
 copy=$(mktemp -d)
 trap 'rm -rf "$copy"' EXIT
 mkdir "$copy/crates"
-for crate in cv_word c_lexer c_ast c_parser; do
+for crate in cv_word c_lexer c_ast c_grammar c_parser; do
     mkdir "$copy/crates/$crate"
     for part in src specs proofs; do
         if [ -d "$top/crates/$crate/$part" ]; then cp -R "$top/crates/$crate/$part" "$copy/crates/$crate/"; fi
