@@ -1,0 +1,6 @@
+-- Lemmas.
+mod ListLemmas
+mod ScopeLemmas
+mod TypeLemmas
+mod WrittenLemmas
+mod AnswerLemmas
