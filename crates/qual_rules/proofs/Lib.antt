@@ -1,0 +1,4 @@
+pub mod Counts
+pub mod Arguments
+pub mod Appends
+pub mod Equations
