@@ -237,10 +237,15 @@ start_bytes strings known place (Characters string) e t notes =
     else no_bytes (broken K12 place notes)
 start_bytes strings known place Other e t notes = no_bytes (type_of e false known (broken K12 place notes)).notes
 
+-- what may initialise no global is told whether or not the global has a type
+abbrev pub untyped_start : ℕ → Start → Notes → Notes
+untyped_start place Other notes = broken K12 place notes
+untyped_start place start notes = notes
+
 abbrev pub start_of_global : List (List ℕ) → Known → ℕ → Option Expression → Option Ty → Notes → StartBytes
 start_of_global strings known place None t notes = no_bytes notes
 start_of_global strings known place (Some e) t notes =
-    elim t [ None ↦ no_bytes notes | Some ty ↦ start_bytes strings known place (start_of e) e ty notes ]
+    elim t [ None ↦ no_bytes (untyped_start place (start_of e) notes) | Some ty ↦ start_bytes strings known place (start_of e) e ty notes ]
 
 abbrev pub with_global : ℕ → ℕ → Option Ty → List ℕ → List Global → List Global
 with_global name place None bytes globals = globals

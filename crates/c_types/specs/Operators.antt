@@ -320,14 +320,14 @@ found number t = record { number = number; ty = t }
 unfoldable pub member_type : Qual → Entry → Option FoundMember
 member_type q e = elim e.ty [ None ↦ None | Some t ↦ Some (found (member_number e.meaning) (under q t)) ]
 
--- K2 at a name that is no member of the struct
+-- K2 at a name that is no member of the struct; one that is defined later has none yet
 abbrev pub found_member : ℕ → Qual → Option Entry → Notes → Looked
 found_member name_place q None notes = record { member = None; notes = broken K2 name_place notes }
 found_member name_place q (Some e) notes = record { member = member_type q e; notes = notes }
 
 unfoldable pub member_of : List known.Structure → ℕ → ℕ → StructType → Notes → Looked
 member_of structs name name_place s notes = elim (slice_get structs s.id) [
-  | None ↦ record { member = None; notes = notes }
+  | None ↦ record { member = None; notes = broken K2 name_place notes }
   | Some structure ↦ found_member name_place s.q (meaning_in structure.fields name) notes
 ]
 

@@ -1,5 +1,5 @@
 -- Programs: where a rule is broken, and the typed tree where none is.
-use Rattle.std.specs.Prelude.{◌≡◌, ℕ, ◌+◌, ◌<◌, ◌≤◌, ◌⊎◌, Bool, true, false, ◌||◌, List, [], ◌∷◌, ◌++◌, Option, Some, None, length, map, fold, slice_get, unwrap_or, Contains}
+use Rattle.std.specs.Prelude.{◌≡◌, ℕ, ◌+◌, ◌<◌, ◌≤◌, ◌⊎◌, Bool, true, false, ◌||◌, List, [], ◌∷◌, ◌++◌, Option, Some, None, length, map, fold, slice_get, unwrap_or, Contains, if◌then◌else◌}
 use Rattle.c_ast.specs.declared.qualifiers.Ty.{Ty}
 use Rattle.c_ast.specs.declared.program.Program.{Program}
 use Rattle.c_ast.specs.declared.program.Item.{Item}
@@ -28,7 +28,8 @@ use Rattle.c_types.specs.Notes.{none_yet, broken_if, unless, without_locals}
 use Rattle.c_types.specs.Statements.{Inside, statement, block_typed}
 use Rattle.c_types.specs.Declarations.{Declared, declare_struct, HeaderRead, header_type, function_of, declare_globals}
 
--- FUNCTIONS ARE KNOWN IN THE WHOLE FILE. A first reading takes their types, and notes nothing.
+-- FUNCTIONS ARE KNOWN IN THE WHOLE FILE. A first reading takes their types, and notes nothing. Of two definitions of a name
+-- the first counts.
 
 pub record Functions : Type 0 where
   pub known : Known
@@ -44,7 +45,8 @@ take_function so_far (Object d) = so_far
 take_function so_far (Prototype h) =
     record so_far { prototypes = with_function so_far.prototypes h.name (function_of (header_type so_far.known h none_yet).header) }
 take_function so_far (Function h body) =
-    record so_far { definitions = with_function so_far.definitions h.name (function_of (header_type so_far.known h none_yet).header) }
+    if is_declared so_far.definitions h.name then so_far
+    else record so_far { definitions = with_function so_far.definitions h.name (function_of (header_type so_far.known h none_yet).header) }
 
 abbrev pub nothing_known : Known
 nothing_known = record { string_sizes = []; tags = []; structs = []; scope = [] }

@@ -1,7 +1,8 @@
 //! The types of a C source.
 //!
 //! `specs/Programs.antt` says where a typing rule is broken and what the typed tree of a program is. Its modules
-//! go over a program once, in source order, with what is known (`known.rt`) and what was noted (`notes.rt`).
+//! go over a program in source order, once its functions are known, with what is known (`known.rt`) and what was
+//! noted (`notes.rt`).
 //! `src/rules.rt` is the table of the rules. [`one_answer`] says that a program has one typed tree at most, or one
 //! rule that is broken at the least place.
 //!

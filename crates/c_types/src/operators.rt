@@ -1,6 +1,7 @@
 //! The rules of operators.
 
 use c_ast::Ty;
+
 /// A member by its number, and its type behind an object.
 #[derive(Drop)]
 pub struct FoundMember {
