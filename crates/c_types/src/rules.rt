@@ -5,7 +5,8 @@ pub const K1: u8 = 1;
 /// A name, a struct or a member isn't known.
 pub const K2: u8 = 2;
 /// An object, parameter, member, element, pointee or `sizeof` is void or a struct that isn't defined earlier, a
-/// parameter is an array, a length is 0 or too great, or an array or a struct is too large.
+/// parameter is an array, a length is 0 or too great, or an array or a struct is too large. A pointee may be the struct
+/// that is being defined.
 pub const K3: u8 = 3;
 /// An operand isn't an integer, and no exception holds.
 pub const K4: u8 = 4;
@@ -13,7 +14,8 @@ pub const K4: u8 = 4;
 pub const K5: u8 = 5;
 /// A value doesn't fit.
 pub const K6: u8 = 6;
-/// A callee is no function, the number of arguments differs, or a gate's name isn't called.
+/// A callee is no function, no gate and no pointer to a function, the number of arguments differs, or a gate's name
+/// isn't called.
 pub const K7: u8 = 7;
 /// `return` with a value in a void function, or without one elsewhere.
 pub const K8: u8 = 8;
@@ -23,7 +25,8 @@ pub const K9: u8 = 9;
 pub const K10: u8 = 10;
 /// A prototype differs from its definition, qualifiers included, or has none.
 pub const K11: u8 = 11;
-/// A global's initialiser isn't a constant that may stand there; a local array or struct has an initialiser.
+/// A global's initialiser isn't a number, a character, one of them after `-`, or for an array of `char` a string that fits
+/// with its zero byte; a local array or struct has an initialiser.
 pub const K12: u8 = 12;
 /// A member's outermost level is private, or a struct is a parameter or a result by value.
 pub const K13: u8 = 13;
