@@ -1,6 +1,4 @@
 -- Lemmas.
 mod ListLemmas
-mod ScopeLemmas
 mod TypeLemmas
-mod WrittenLemmas
 mod AnswerLemmas
