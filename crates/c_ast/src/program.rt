@@ -1,4 +1,4 @@
-//! A source as it is written, production by production. Brackets around an expression are gone.
+//! A source as it is written, production by production.
 
 use crate::text::Text;
 use sqlite_items::{Boxed, Items};
@@ -200,7 +200,8 @@ pub enum StatementKind {
     Continue,
 }
 
-/// An expression and the place of its first byte. In brackets that is the place inside them.
+/// An expression and the place of its first byte. The place of an operator between two operands is
+/// its left operand's, brackets included.
 #[cycle(expressions)]
 #[derive(Debug, Drop)]
 pub struct Expression {
@@ -222,6 +223,9 @@ pub enum ExpressionKind {
     },
     String {
         string: u32,
+    },
+    Bracket {
+        inner: Boxed<Expression>,
     },
     Prefix {
         op: PrefixOp,

@@ -29,7 +29,7 @@ use Rattle.c_ast.specs.declared.program.BlockItem as block_item
 use Rattle.c_ast.specs.declared.program.Item.{Item}
 use Rattle.c_ast.specs.declared.program.Item.TheVariants as item
 
--- what a part built. An expression comes with the place where its text begins, brackets included.
+-- what a part built
 pub data Value : Type 0 where
   Place : ℕ → Value
   Leaf : ℕ → ℕ → Value
@@ -50,7 +50,7 @@ pub data Value : Type 0 where
   OfDeclaration : Declaration → Value
   OfParameter : Parameter → Value
   Parameters : List Parameter → Value
-  OfExpression : ℕ → Expression → Value
+  OfExpression : Expression → Value
   Arguments : List Expression → Value
   Perhaps : Option Expression → Value
   OfKind : StatementKind → Value
@@ -111,7 +111,7 @@ pub data Step : Type 0 where
   MakeFunction : Step
 
 abbrev pub expression_at : ℕ → ExpressionKind → Value
-expression_at place kind = OfExpression place (record { place = place; kind = kind })
+expression_at place kind = OfExpression (record { place = place; kind = kind })
 
 abbrev pub declarator : ℕ → ℕ → List Star → Shape → Value
 declarator name place stars shape = OfDeclarator (record { name = name; place = place; stars = stars; shape = shape })
@@ -129,14 +129,14 @@ build First (OfDeclarator d ∷ vs) = Declarators (d ∷ []) ∷ vs
 build First (OfMember m ∷ vs) = Members (m ∷ []) ∷ vs
 build First (OfInitialised i ∷ vs) = AllInitialised (i ∷ []) ∷ vs
 build First (OfParameter p ∷ vs) = Parameters (p ∷ []) ∷ vs
-build First (OfExpression p e ∷ vs) = Arguments (e ∷ []) ∷ vs
+build First (OfExpression e ∷ vs) = Arguments (e ∷ []) ∷ vs
 build Push (Private p ∷ Stars ss ∷ vs) = Stars (ss ++ record { is_private = p } ∷ []) ∷ vs
 build Push (OfType t ∷ Types ts ∷ vs) = Types (ts ++ t ∷ []) ∷ vs
 build Push (OfDeclarator d ∷ Declarators ds ∷ vs) = Declarators (ds ++ d ∷ []) ∷ vs
 build Push (OfMember m ∷ Members ms ∷ vs) = Members (ms ++ m ∷ []) ∷ vs
 build Push (OfInitialised i ∷ AllInitialised is ∷ vs) = AllInitialised (is ++ i ∷ []) ∷ vs
 build Push (OfParameter p ∷ Parameters ps ∷ vs) = Parameters (ps ++ p ∷ []) ∷ vs
-build Push (OfExpression p e ∷ Arguments es ∷ vs) = Arguments (es ++ e ∷ []) ∷ vs
+build Push (OfExpression e ∷ Arguments es ∷ vs) = Arguments (es ++ e ∷ []) ∷ vs
 build Push (OfDeclaration d ∷ BlockItems is ∷ vs) = BlockItems (is ++ block_item.Declare d ∷ []) ∷ vs
 build Push (OfStatement s ∷ BlockItems is ∷ vs) = BlockItems (is ++ block_item.Run s ∷ []) ∷ vs
 build Push (OfItem i ∷ Items is ∷ vs) = Items (is ++ i ∷ []) ∷ vs
@@ -161,27 +161,27 @@ build MakeName (Leaf place name ∷ vs) = expression_at place (expression.Name n
 build MakeNumber (Leaf place value ∷ vs) = expression_at place (expression.Number value) ∷ vs
 build MakeCharacter (Leaf place value ∷ vs) = expression_at place (expression.Character value) ∷ vs
 build MakeString (Leaf place string ∷ vs) = expression_at place (expression.String string) ∷ vs
-build MakeBracket (OfExpression q e ∷ Place p ∷ vs) = OfExpression p e ∷ vs
-build (MakePrefix op) (OfExpression q e ∷ Place p ∷ vs) = expression_at p (expression.Prefix op e) ∷ vs
+build MakeBracket (OfExpression e ∷ Place p ∷ vs) = expression_at p (expression.Bracket e) ∷ vs
+build (MakePrefix op) (OfExpression e ∷ Place p ∷ vs) = expression_at p (expression.Prefix op e) ∷ vs
 build MakeSizeof (OfType t ∷ Place p ∷ vs) = expression_at p (expression.Sizeof t) ∷ vs
-build MakeCast (OfExpression q e ∷ OfType t ∷ Place p ∷ vs) = expression_at p (expression.Cast t e) ∷ vs
-build (MakeInfix op) (OfExpression q b ∷ OfExpression p a ∷ vs) = expression_at p (expression.Infix op a b) ∷ vs
-build MakeChoice (OfExpression r c ∷ OfExpression q b ∷ OfExpression p a ∷ vs) =
-    expression_at p (expression.Choice a b c) ∷ vs
-build MakeAssign (OfExpression q b ∷ OfExpression p a ∷ vs) = expression_at p (expression.Assign a b) ∷ vs
-build MakeIndex (OfExpression q b ∷ OfExpression p a ∷ vs) = expression_at p (expression.Index a b) ∷ vs
-build MakeCall (Arguments es ∷ OfExpression p a ∷ vs) = expression_at p (expression.Call a es) ∷ vs
-build MakeDot (Leaf place name ∷ OfExpression p a ∷ vs) = expression_at p (expression.Member a name place) ∷ vs
-build MakeArrow (Leaf place name ∷ OfExpression p a ∷ vs) = expression_at p (expression.Arrow a name place) ∷ vs
-build MakeSome (OfExpression p e ∷ vs) = Perhaps (Some e) ∷ vs
+build MakeCast (OfExpression e ∷ OfType t ∷ Place p ∷ vs) = expression_at p (expression.Cast t e) ∷ vs
+build (MakeInfix op) (OfExpression b ∷ OfExpression a ∷ vs) = expression_at a.place (expression.Infix op a b) ∷ vs
+build MakeChoice (OfExpression c ∷ OfExpression b ∷ OfExpression a ∷ vs) =
+    expression_at a.place (expression.Choice a b c) ∷ vs
+build MakeAssign (OfExpression b ∷ OfExpression a ∷ vs) = expression_at a.place (expression.Assign a b) ∷ vs
+build MakeIndex (OfExpression b ∷ OfExpression a ∷ vs) = expression_at a.place (expression.Index a b) ∷ vs
+build MakeCall (Arguments es ∷ OfExpression a ∷ vs) = expression_at a.place (expression.Call a es) ∷ vs
+build MakeDot (Leaf place name ∷ OfExpression a ∷ vs) = expression_at a.place (expression.Member a name place) ∷ vs
+build MakeArrow (Leaf place name ∷ OfExpression a ∷ vs) = expression_at a.place (expression.Arrow a name place) ∷ vs
+build MakeSome (OfExpression e ∷ vs) = Perhaps (Some e) ∷ vs
 -- statements
 build MakeBlock (BlockItems is ∷ Place p ∷ vs) = OfBlock (record { place = p; items = is }) ∷ vs
 build MakeNested (OfBlock b ∷ vs) = OfKind (statement.Block b) ∷ vs
 build MakeEval (Perhaps e ∷ vs) = OfKind (statement.Eval e) ∷ vs
-build MakeIf (OfStatement s ∷ OfExpression p c ∷ vs) = OfKind (statement.If c s None) ∷ vs
-build MakeIfElse (OfStatement t ∷ OfStatement s ∷ OfExpression p c ∷ vs) = OfKind (statement.If c s (Some t)) ∷ vs
-build MakeWhile (OfStatement s ∷ OfExpression p c ∷ vs) = OfKind (statement.While c s) ∷ vs
-build MakeDoWhile (OfExpression p c ∷ OfStatement s ∷ vs) = OfKind (statement.DoWhile s c) ∷ vs
+build MakeIf (OfStatement s ∷ OfExpression c ∷ vs) = OfKind (statement.If c s None) ∷ vs
+build MakeIfElse (OfStatement t ∷ OfStatement s ∷ OfExpression c ∷ vs) = OfKind (statement.If c s (Some t)) ∷ vs
+build MakeWhile (OfStatement s ∷ OfExpression c ∷ vs) = OfKind (statement.While c s) ∷ vs
+build MakeDoWhile (OfExpression c ∷ OfStatement s ∷ vs) = OfKind (statement.DoWhile s c) ∷ vs
 build MakeFor (OfStatement s ∷ Perhaps c ∷ Perhaps b ∷ Perhaps a ∷ vs) = OfKind (statement.For a b c s) ∷ vs
 build MakeReturn (Perhaps e ∷ vs) = OfKind (statement.Return e) ∷ vs
 build MakeStatement (OfKind k ∷ Place p ∷ vs) = OfStatement (record { place = p; kind = k }) ∷ vs

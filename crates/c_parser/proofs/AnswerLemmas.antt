@@ -14,9 +14,6 @@ use Rattle.c_parser.specs.declared.errors.ParseError.{ParseError}
 use Rattle.c_parser.specs.declared.errors.ParseError.TheVariants.{NoMemory, SyntaxFault, DepthFault}
 use Rattle.c_parser.specs.Programs.{IsFault, IsProgram, Strings, none, string, skip, words_of_source}
 
-heads : {X : Type 0} (a b : X) (xs ys : List X) → a ∷ xs ≡ b ∷ ys → (a ≡ b) × (xs ≡ ys)
-heads a b xs ys e = (cc, cc)
-
 -- the strings of some tokens, one on
 abbrev Next : List ℕ → List Token → List (List ℕ) → Type 0
 Next source [] strings = strings ≡ []

@@ -23,27 +23,19 @@ use c_ast::{Boxed, Items};
 use c_grammar::{Terminal, Word};
 use std::alloc::Global;
 
-/// An expression, and the place where its text begins, brackets included.
-#[derive(Debug, Drop)]
-pub struct Placed {
-    pub place: u32,
-    pub expression: Expression,
-}
-
 /// An expression of this kind, whose text begins at this place.
-fn at_place(place: u32, kind: ExpressionKind) -> Placed
-    ensures { result ≡ record { place = place; expression = record { place = place; kind = kind } } }
+fn at_place(place: u32, kind: ExpressionKind) -> Expression
+    ensures { result ≡ record { place = place; kind = kind } }
 {
-    let expression = Expression { place, kind };
-    Placed { place, expression }
+    Expression { place, kind }
 }
 
 /// A name, a number, a character or a string.
-fn literal(words: &[Word], spot: Spot) -> Result<(Placed, Spot), ParseError>
+fn literal(words: &[Word], spot: Spot) -> Result<(Expression, Spot), ParseError>
     requires ready { IsReady words.now spot }
     requires shallow { IsShallow spot }
     requires other { next_is (drop spot.at words.now) terminal.Open ≡ false }
-    ensures read { IfOk result (λ r. Reads words.now spot (N form.Primary ∷ []) r.1 (OfExpression r.0.place r.0.expression)) }
+    ensures read { IfOk result (λ r. Reads words.now spot (N form.Primary ∷ []) r.1 (OfExpression r.0)) }
     ensures on { IfOk result (λ r. spot.at < r.1.at) }
     ensures refused { IfErr result (Breaks NESTING words.now spot (N form.Primary ∷ [])) }
 {
@@ -78,26 +70,26 @@ fn literal(words: &[Word], spot: Spot) -> Result<(Placed, Spot), ParseError>
 
 /// An expression in brackets.
 #[cycle(expressions)]
-fn bracket(alloc: Global, words: &[Word], spot: Spot) -> Result<(Placed, Spot), ParseError>
+fn bracket(alloc: Global, words: &[Word], spot: Spot) -> Result<(Expression, Spot), ParseError>
     requires ready { IsReady words.now spot }
     requires shallow { IsShallow spot }
-    ensures read { IfOk result (λ r. Reads words.now spot (Here ∷ T terminal.Open ∷ N form.Expression ∷ T terminal.Close ∷ B MakeBracket ∷ []) r.1 (OfExpression r.0.place r.0.expression)) }
+    ensures read { IfOk result (λ r. Reads words.now spot (Here ∷ T terminal.Open ∷ N form.Expression ∷ T terminal.Close ∷ B MakeBracket ∷ []) r.1 (OfExpression r.0)) }
     ensures on { IfOk result (λ r. spot.at < r.1.at) }
     ensures refused { IfErr result (Breaks NESTING words.now spot (Here ∷ T terminal.Open ∷ N form.Expression ∷ T terminal.Close ∷ B MakeBracket ∷ [])) }
 {
     let (place, one) = take_here(words, spot, Terminal::Open)?;
     let (inner, two) = expression(alloc, words, one)?;
     let (_, three) = take(words, two, Terminal::Close)?;
-    let expression = inner.expression;
-    Ok((Placed { place, expression }, three))
+    let inner = Boxed::new(alloc, inner)?;
+    Ok((at_place(place, ExpressionKind::Bracket { inner }), three))
 }
 
 /// A name, a number, a character, a string, or an expression in brackets.
 #[cycle(expressions)]
-fn primary(alloc: Global, words: &[Word], spot: Spot) -> Result<(Placed, Spot), ParseError>
+fn primary(alloc: Global, words: &[Word], spot: Spot) -> Result<(Expression, Spot), ParseError>
     requires ready { IsReady words.now spot }
     requires shallow { IsShallow spot }
-    ensures read { IfOk result (λ r. Reads words.now spot (N form.Primary ∷ []) r.1 (OfExpression r.0.place r.0.expression)) }
+    ensures read { IfOk result (λ r. Reads words.now spot (N form.Primary ∷ []) r.1 (OfExpression r.0)) }
     ensures on { IfOk result (λ r. spot.at < r.1.at) }
     ensures refused { IfErr result (Breaks NESTING words.now spot (N form.Primary ∷ [])) }
 {
@@ -127,12 +119,12 @@ fn arguments(
         return Ok((arguments, spot));
     }
     let (first, one) = assign(alloc, words, spot)?;
-    arguments.push(first.expression)?;
+    arguments.push(first)?;
     let mut here = one;
     while next_is(words, here.at, Terminal::Comma) {
         let (_, two) = take(words, here, Terminal::Comma)?;
         let (next, three) = assign(alloc, words, two)?;
-        arguments.push(next.expression)?;
+        arguments.push(next)?;
         here = three;
     }
     Ok((arguments, here))
@@ -144,13 +136,13 @@ fn index(
     alloc: Global,
     words: &[Word],
     spot: Spot,
-    left: Placed,
-) -> Result<(Placed, Spot), ParseError>
+    left: Expression,
+) -> Result<(Expression, Spot), ParseError>
     requires ready { IsReady words.now spot }
     requires shallow { IsShallow spot }
-    ensures read { IfOk result (λ r. Turns words.now spot (λ back. T terminal.OpenBracket ∷ N form.Expression ∷ T terminal.CloseBracket ∷ M CountOperator ∷ B MakeIndex ∷ back) (OfExpression left.place left.expression) r.1 (λ back. back) (OfExpression r.0.place r.0.expression)) }
+    ensures read { IfOk result (λ r. Turns words.now spot (λ back. T terminal.OpenBracket ∷ N form.Expression ∷ T terminal.CloseBracket ∷ M CountOperator ∷ B MakeIndex ∷ back) (OfExpression left) r.1 (λ back. back) (OfExpression r.0)) }
     ensures on { IfOk result (λ r. spot.at < r.1.at) }
-    ensures refused { IfErr result (Halts words.now spot (λ back. T terminal.OpenBracket ∷ N form.Expression ∷ T terminal.CloseBracket ∷ M CountOperator ∷ B MakeIndex ∷ back) (OfExpression left.place left.expression)) }
+    ensures refused { IfErr result (Halts words.now spot (λ back. T terminal.OpenBracket ∷ N form.Expression ∷ T terminal.CloseBracket ∷ M CountOperator ∷ B MakeIndex ∷ back) (OfExpression left)) }
 {
     let (_, one) = take(words, spot, Terminal::OpenBracket)?;
     let (inner, two) = expression(alloc, words, one)?;
@@ -159,12 +151,10 @@ fn index(
         ended: three.ended + 1,
         ..three
     };
-    let of = Boxed::new(alloc, left.expression)?;
-    let at = Boxed::new(alloc, inner.expression)?;
-    Ok((
-        at_place(left.place, ExpressionKind::Index { of, at }),
-        marked,
-    ))
+    let place = left.place;
+    let of = Boxed::new(alloc, left)?;
+    let at = Boxed::new(alloc, inner)?;
+    Ok((at_place(place, ExpressionKind::Index { of, at }), marked))
 }
 
 /// `(..)` behind an expression.
@@ -173,13 +163,13 @@ fn call(
     alloc: Global,
     words: &[Word],
     spot: Spot,
-    left: Placed,
-) -> Result<(Placed, Spot), ParseError>
+    left: Expression,
+) -> Result<(Expression, Spot), ParseError>
     requires ready { IsReady words.now spot }
     requires shallow { IsShallow spot }
-    ensures read { IfOk result (λ r. Turns words.now spot (λ back. T terminal.Open ∷ N form.Arguments ∷ T terminal.Close ∷ M CountOperator ∷ B MakeCall ∷ back) (OfExpression left.place left.expression) r.1 (λ back. back) (OfExpression r.0.place r.0.expression)) }
+    ensures read { IfOk result (λ r. Turns words.now spot (λ back. T terminal.Open ∷ N form.Arguments ∷ T terminal.Close ∷ M CountOperator ∷ B MakeCall ∷ back) (OfExpression left) r.1 (λ back. back) (OfExpression r.0)) }
     ensures on { IfOk result (λ r. spot.at < r.1.at) }
-    ensures refused { IfErr result (Halts words.now spot (λ back. T terminal.Open ∷ N form.Arguments ∷ T terminal.Close ∷ M CountOperator ∷ B MakeCall ∷ back) (OfExpression left.place left.expression)) }
+    ensures refused { IfErr result (Halts words.now spot (λ back. T terminal.Open ∷ N form.Arguments ∷ T terminal.Close ∷ M CountOperator ∷ B MakeCall ∷ back) (OfExpression left)) }
 {
     let (_, one) = take(words, spot, Terminal::Open)?;
     let (arguments, two) = arguments(alloc, words, one)?;
@@ -188,9 +178,10 @@ fn call(
         ended: three.ended + 1,
         ..three
     };
-    let callee = Boxed::new(alloc, left.expression)?;
+    let place = left.place;
+    let callee = Boxed::new(alloc, left)?;
     Ok((
-        at_place(left.place, ExpressionKind::Call { callee, arguments }),
+        at_place(place, ExpressionKind::Call { callee, arguments }),
         marked,
     ))
 }
@@ -200,13 +191,13 @@ fn member(
     alloc: Global,
     words: &[Word],
     spot: Spot,
-    left: Placed,
-) -> Result<(Placed, Spot), ParseError>
+    left: Expression,
+) -> Result<(Expression, Spot), ParseError>
     requires ready { IsReady words.now spot }
     requires shallow { IsShallow spot }
-    ensures read { IfOk result (λ r. Turns words.now spot (λ back. T terminal.Dot ∷ L terminal.Name ∷ M CountOperator ∷ B MakeDot ∷ back) (OfExpression left.place left.expression) r.1 (λ back. back) (OfExpression r.0.place r.0.expression)) }
+    ensures read { IfOk result (λ r. Turns words.now spot (λ back. T terminal.Dot ∷ L terminal.Name ∷ M CountOperator ∷ B MakeDot ∷ back) (OfExpression left) r.1 (λ back. back) (OfExpression r.0)) }
     ensures on { IfOk result (λ r. spot.at < r.1.at) }
-    ensures refused { IfErr result (Halts words.now spot (λ back. T terminal.Dot ∷ L terminal.Name ∷ M CountOperator ∷ B MakeDot ∷ back) (OfExpression left.place left.expression)) }
+    ensures refused { IfErr result (Halts words.now spot (λ back. T terminal.Dot ∷ L terminal.Name ∷ M CountOperator ∷ B MakeDot ∷ back) (OfExpression left)) }
 {
     let (_, one) = take(words, spot, Terminal::Dot)?;
     let (word, two) = take(words, one, Terminal::Name)?;
@@ -214,7 +205,8 @@ fn member(
         ended: two.ended + 1,
         ..two
     };
-    let of = Boxed::new(alloc, left.expression)?;
+    let place = left.place;
+    let of = Boxed::new(alloc, left)?;
     let name = word.value as u32;
     let name_place = word.place;
     let kind = ExpressionKind::Member {
@@ -222,7 +214,7 @@ fn member(
         name,
         name_place,
     };
-    Ok((at_place(left.place, kind), marked))
+    Ok((at_place(place, kind), marked))
 }
 
 /// `->NAME` behind an expression.
@@ -230,13 +222,13 @@ fn arrow(
     alloc: Global,
     words: &[Word],
     spot: Spot,
-    left: Placed,
-) -> Result<(Placed, Spot), ParseError>
+    left: Expression,
+) -> Result<(Expression, Spot), ParseError>
     requires ready { IsReady words.now spot }
     requires shallow { IsShallow spot }
-    ensures read { IfOk result (λ r. Turns words.now spot (λ back. T terminal.Arrow ∷ L terminal.Name ∷ M CountOperator ∷ B MakeArrow ∷ back) (OfExpression left.place left.expression) r.1 (λ back. back) (OfExpression r.0.place r.0.expression)) }
+    ensures read { IfOk result (λ r. Turns words.now spot (λ back. T terminal.Arrow ∷ L terminal.Name ∷ M CountOperator ∷ B MakeArrow ∷ back) (OfExpression left) r.1 (λ back. back) (OfExpression r.0)) }
     ensures on { IfOk result (λ r. spot.at < r.1.at) }
-    ensures refused { IfErr result (Halts words.now spot (λ back. T terminal.Arrow ∷ L terminal.Name ∷ M CountOperator ∷ B MakeArrow ∷ back) (OfExpression left.place left.expression)) }
+    ensures refused { IfErr result (Halts words.now spot (λ back. T terminal.Arrow ∷ L terminal.Name ∷ M CountOperator ∷ B MakeArrow ∷ back) (OfExpression left)) }
 {
     let (_, one) = take(words, spot, Terminal::Arrow)?;
     let (word, two) = take(words, one, Terminal::Name)?;
@@ -244,7 +236,8 @@ fn arrow(
         ended: two.ended + 1,
         ..two
     };
-    let of = Boxed::new(alloc, left.expression)?;
+    let place = left.place;
+    let of = Boxed::new(alloc, left)?;
     let name = word.value as u32;
     let name_place = word.place;
     let kind = ExpressionKind::Arrow {
@@ -252,7 +245,7 @@ fn arrow(
         name,
         name_place,
     };
-    Ok((at_place(left.place, kind), marked))
+    Ok((at_place(place, kind), marked))
 }
 
 /// A suffix, where one is next.
@@ -261,14 +254,14 @@ fn suffix(
     alloc: Global,
     words: &[Word],
     spot: Spot,
-    left: Placed,
-) -> Result<(Placed, Spot), ParseError>
+    left: Expression,
+) -> Result<(Expression, Spot), ParseError>
     requires ready { IsReady words.now spot }
     requires shallow { IsShallow spot }
     requires next { begins_suffix (drop spot.at words.now) ≡ true }
-    ensures read { IfOk result (λ r. Turns words.now spot (λ back. N form.Suffixes ∷ back) (OfExpression left.place left.expression) r.1 (λ back. N form.Suffixes ∷ back) (OfExpression r.0.place r.0.expression)) }
+    ensures read { IfOk result (λ r. Turns words.now spot (λ back. N form.Suffixes ∷ back) (OfExpression left) r.1 (λ back. N form.Suffixes ∷ back) (OfExpression r.0)) }
     ensures on { IfOk result (λ r. spot.at < r.1.at) }
-    ensures refused { IfErr result (Halts words.now spot (λ back. N form.Suffixes ∷ back) (OfExpression left.place left.expression)) }
+    ensures refused { IfErr result (Halts words.now spot (λ back. N form.Suffixes ∷ back) (OfExpression left)) }
 {
     if next_is(words, spot.at, Terminal::OpenBracket) {
         let (longer, one) = index(alloc, words, spot, left)?;
@@ -292,12 +285,12 @@ fn suffixes(
     alloc: Global,
     words: &[Word],
     spot: Spot,
-    left: Placed,
-) -> Result<(Placed, Spot), ParseError>
+    left: Expression,
+) -> Result<(Expression, Spot), ParseError>
     requires ready { IsReady words.now spot }
     requires shallow { IsShallow spot }
-    ensures read { IfOk result (λ r. Turns words.now spot (λ back. N form.Suffixes ∷ back) (OfExpression left.place left.expression) r.1 (λ back. back) (OfExpression r.0.place r.0.expression)) }
-    ensures refused { IfErr result (Halts words.now spot (λ back. N form.Suffixes ∷ back) (OfExpression left.place left.expression)) }
+    ensures read { IfOk result (λ r. Turns words.now spot (λ back. N form.Suffixes ∷ back) (OfExpression left) r.1 (λ back. back) (OfExpression r.0)) }
+    ensures refused { IfErr result (Halts words.now spot (λ back. N form.Suffixes ∷ back) (OfExpression left)) }
 {
     let mut whole = left;
     let mut here = spot;
@@ -311,10 +304,10 @@ fn suffixes(
 
 /// A name, a literal or brackets with its suffixes.
 #[cycle(expressions)]
-fn postfix(alloc: Global, words: &[Word], spot: Spot) -> Result<(Placed, Spot), ParseError>
+fn postfix(alloc: Global, words: &[Word], spot: Spot) -> Result<(Expression, Spot), ParseError>
     requires ready { IsReady words.now spot }
     requires shallow { IsShallow spot }
-    ensures read { IfOk result (λ r. Reads words.now spot (N form.Postfix ∷ []) r.1 (OfExpression r.0.place r.0.expression)) }
+    ensures read { IfOk result (λ r. Reads words.now spot (N form.Postfix ∷ []) r.1 (OfExpression r.0)) }
     ensures on { IfOk result (λ r. spot.at < r.1.at) }
     ensures refused { IfErr result (Breaks NESTING words.now spot (N form.Postfix ∷ [])) }
 {
@@ -331,11 +324,11 @@ fn prefixed(
     spot: Spot,
     sign: Terminal,
     op: PrefixOp,
-) -> Result<(Placed, Spot), ParseError>
+) -> Result<(Expression, Spot), ParseError>
     requires ready { IsReady words.now spot }
     requires shallow { IsShallow spot }
     requires room { spot.depth ≤ NESTING + 3 }
-    ensures read { IfOk result (λ r. Reads words.now spot (prefix sign op) r.1 (OfExpression r.0.place r.0.expression)) }
+    ensures read { IfOk result (λ r. Reads words.now spot (prefix sign op) r.1 (OfExpression r.0)) }
     ensures on { IfOk result (λ r. spot.at < r.1.at) }
     ensures refused { IfErr result (Breaks NESTING words.now spot (prefix sign op)) }
 {
@@ -349,7 +342,7 @@ fn prefixed(
         depth: spot.depth,
         ..two
     };
-    let operand = Boxed::new(alloc, of.expression)?;
+    let operand = Boxed::new(alloc, of)?;
     Ok((
         at_place(place, ExpressionKind::Prefix { op, operand }),
         outside,
@@ -357,10 +350,10 @@ fn prefixed(
 }
 
 /// `sizeof` of a type.
-fn size_of(alloc: Global, words: &[Word], spot: Spot) -> Result<(Placed, Spot), ParseError>
+fn size_of(alloc: Global, words: &[Word], spot: Spot) -> Result<(Expression, Spot), ParseError>
     requires ready { IsReady words.now spot }
     requires shallow { IsShallow spot }
-    ensures read { IfOk result (λ r. Reads words.now spot (Here ∷ T terminal.Sizeof ∷ T terminal.Open ∷ N form.TypeName ∷ T terminal.Close ∷ B MakeSizeof ∷ []) r.1 (OfExpression r.0.place r.0.expression)) }
+    ensures read { IfOk result (λ r. Reads words.now spot (Here ∷ T terminal.Sizeof ∷ T terminal.Open ∷ N form.TypeName ∷ T terminal.Close ∷ B MakeSizeof ∷ []) r.1 (OfExpression r.0)) }
     ensures on { IfOk result (λ r. spot.at < r.1.at) }
     ensures refused { IfErr result (Breaks NESTING words.now spot (Here ∷ T terminal.Sizeof ∷ T terminal.Open ∷ N form.TypeName ∷ T terminal.Close ∷ B MakeSizeof ∷ [])) }
 {
@@ -373,11 +366,11 @@ fn size_of(alloc: Global, words: &[Word], spot: Spot) -> Result<(Placed, Spot), 
 
 /// A sign with its operand, `sizeof` of a type, or what has suffixes.
 #[cycle(expressions)]
-fn unary(alloc: Global, words: &[Word], spot: Spot) -> Result<(Placed, Spot), ParseError>
+fn unary(alloc: Global, words: &[Word], spot: Spot) -> Result<(Expression, Spot), ParseError>
     requires ready { IsReady words.now spot }
     requires shallow { IsShallow spot }
     requires room { spot.depth ≤ NESTING + 3 }
-    ensures read { IfOk result (λ r. Reads words.now spot (N form.Unary ∷ []) r.1 (OfExpression r.0.place r.0.expression)) }
+    ensures read { IfOk result (λ r. Reads words.now spot (N form.Unary ∷ []) r.1 (OfExpression r.0)) }
     ensures on { IfOk result (λ r. spot.at < r.1.at) }
     ensures refused { IfErr result (Breaks NESTING words.now spot (N form.Unary ∷ [])) }
 {
@@ -398,11 +391,11 @@ fn unary(alloc: Global, words: &[Word], spot: Spot) -> Result<(Placed, Spot), Pa
 
 /// A type in brackets and its operand.
 #[cycle(expressions)]
-fn typed(alloc: Global, words: &[Word], spot: Spot) -> Result<(Placed, Spot), ParseError>
+fn typed(alloc: Global, words: &[Word], spot: Spot) -> Result<(Expression, Spot), ParseError>
     requires ready { IsReady words.now spot }
     requires shallow { IsShallow spot }
     requires room { spot.depth ≤ NESTING + 3 }
-    ensures read { IfOk result (λ r. Reads words.now spot typed_operand r.1 (OfExpression r.0.place r.0.expression)) }
+    ensures read { IfOk result (λ r. Reads words.now spot typed_operand r.1 (OfExpression r.0)) }
     ensures on { IfOk result (λ r. spot.at < r.1.at) }
     ensures refused { IfErr result (Breaks NESTING words.now spot typed_operand) }
 {
@@ -418,7 +411,7 @@ fn typed(alloc: Global, words: &[Word], spot: Spot) -> Result<(Placed, Spot), Pa
         depth: spot.depth,
         ..four
     };
-    let operand = Boxed::new(alloc, of.expression)?;
+    let operand = Boxed::new(alloc, of)?;
     Ok((
         at_place(place, ExpressionKind::Cast { to, operand }),
         outside,
@@ -427,11 +420,11 @@ fn typed(alloc: Global, words: &[Word], spot: Spot) -> Result<(Placed, Spot), Pa
 
 /// An operand, perhaps with types in brackets before it.
 #[cycle(expressions)]
-fn cast(alloc: Global, words: &[Word], spot: Spot) -> Result<(Placed, Spot), ParseError>
+fn cast(alloc: Global, words: &[Word], spot: Spot) -> Result<(Expression, Spot), ParseError>
     requires ready { IsReady words.now spot }
     requires shallow { IsShallow spot }
     requires room { spot.depth ≤ NESTING + 3 }
-    ensures read { IfOk result (λ r. Reads words.now spot (N form.Cast ∷ []) r.1 (OfExpression r.0.place r.0.expression)) }
+    ensures read { IfOk result (λ r. Reads words.now spot (N form.Cast ∷ []) r.1 (OfExpression r.0)) }
     ensures on { IfOk result (λ r. spot.at < r.1.at) }
     ensures refused { IfErr result (Breaks NESTING words.now spot (N form.Cast ∷ [])) }
 {
@@ -449,15 +442,15 @@ fn infix(
     alloc: Global,
     words: &[Word],
     spot: Spot,
-    left: Placed,
+    left: Expression,
     operator: Operator,
-) -> Result<(Placed, Spot), ParseError>
+) -> Result<(Expression, Spot), ParseError>
     requires ready { IsReady words.now spot }
     requires shallow { IsShallow spot }
     requires level { operator.level < 10 }
-    ensures read { IfOk result (λ r. Turns words.now spot (λ back. T operator.sign ∷ M CountOperator ∷ N (operand (level_at operator.level)) ∷ B (MakeInfix operator.op) ∷ back) (OfExpression left.place left.expression) r.1 (λ back. back) (OfExpression r.0.place r.0.expression)) }
+    ensures read { IfOk result (λ r. Turns words.now spot (λ back. T operator.sign ∷ M CountOperator ∷ N (operand (level_at operator.level)) ∷ B (MakeInfix operator.op) ∷ back) (OfExpression left) r.1 (λ back. back) (OfExpression r.0)) }
     ensures on { IfOk result (λ r. spot.at < r.1.at) }
-    ensures refused { IfErr result (Halts words.now spot (λ back. T operator.sign ∷ M CountOperator ∷ N (operand (level_at operator.level)) ∷ B (MakeInfix operator.op) ∷ back) (OfExpression left.place left.expression)) }
+    ensures refused { IfErr result (Halts words.now spot (λ back. T operator.sign ∷ M CountOperator ∷ N (operand (level_at operator.level)) ∷ B (MakeInfix operator.op) ∷ back) (OfExpression left)) }
 {
     let op = operator.op;
     let (_, one) = take(words, spot, operator.sign)?;
@@ -467,8 +460,8 @@ fn infix(
     };
     let (other, two) = operand(alloc, words, marked, operator.level)?;
     let place = left.place;
-    let left = Boxed::new(alloc, left.expression)?;
-    let right = Boxed::new(alloc, other.expression)?;
+    let left = Boxed::new(alloc, left)?;
+    let right = Boxed::new(alloc, other)?;
     Ok((
         at_place(place, ExpressionKind::Infix { op, left, right }),
         two,
@@ -481,14 +474,14 @@ fn operands(
     alloc: Global,
     words: &[Word],
     spot: Spot,
-    left: Placed,
+    left: Expression,
     bound: u8,
-) -> Result<(Placed, Spot), ParseError>
+) -> Result<(Expression, Spot), ParseError>
     requires ready { IsReady words.now spot }
     requires shallow { IsShallow spot }
     requires bound { bound ≤ 10 }
-    ensures read { IfOk result (λ r. Turns words.now spot (operands_between 0 bound) (OfExpression left.place left.expression) r.1 (λ back. back) (OfExpression r.0.place r.0.expression)) }
-    ensures refused { IfErr result (Halts words.now spot (operands_between 0 bound) (OfExpression left.place left.expression)) }
+    ensures read { IfOk result (λ r. Turns words.now spot (operands_between 0 bound) (OfExpression left) r.1 (λ back. back) (OfExpression r.0)) }
+    ensures refused { IfErr result (Halts words.now spot (operands_between 0 bound) (OfExpression left)) }
 {
     let mut whole = left;
     let mut here = spot;
@@ -509,12 +502,12 @@ fn operand(
     words: &[Word],
     spot: Spot,
     level: u8,
-) -> Result<(Placed, Spot), ParseError>
+) -> Result<(Expression, Spot), ParseError>
     requires ready { IsReady words.now spot }
     requires shallow { IsShallow spot }
     requires room { spot.depth ≤ NESTING + 3 }
     requires level { level < 10 }
-    ensures read { IfOk result (λ r. Reads words.now spot (N (operand (level_at level)) ∷ []) r.1 (OfExpression r.0.place r.0.expression)) }
+    ensures read { IfOk result (λ r. Reads words.now spot (N (operand (level_at level)) ∷ []) r.1 (OfExpression r.0)) }
     ensures on { IfOk result (λ r. spot.at < r.1.at) }
     ensures refused { IfErr result (Breaks NESTING words.now spot (N (operand (level_at level)) ∷ [])) }
 {
@@ -526,22 +519,23 @@ fn operand(
 /// A choice of its condition and its two ways.
 fn choice_of(
     alloc: Global,
-    test: Placed,
-    first: Placed,
-    second: Placed,
-) -> Result<Placed, ParseError>
-    ensures value { IfOk result (λ r. r ≡ record { place = test.place; expression = record { place = test.place; kind = ExpressionKind.Choice test.expression first.expression second.expression } }) }
+    test: Expression,
+    first: Expression,
+    second: Expression,
+) -> Result<Expression, ParseError>
+    ensures value { IfOk result (λ r. r ≡ record { place = test.place; kind = ExpressionKind.Choice test first second }) }
     ensures refused { IfErr result (λ e. e ≡ NoMemory) }
 {
-    let condition = Boxed::new(alloc, test.expression)?;
-    let then = Boxed::new(alloc, first.expression)?;
-    let otherwise = Boxed::new(alloc, second.expression)?;
+    let place = test.place;
+    let condition = Boxed::new(alloc, test)?;
+    let then = Boxed::new(alloc, first)?;
+    let otherwise = Boxed::new(alloc, second)?;
     let kind = ExpressionKind::Choice {
         condition,
         then,
         otherwise,
     };
-    Ok(at_place(test.place, kind))
+    Ok(at_place(place, kind))
 }
 
 /// The two ways of a choice, behind its condition.
@@ -550,12 +544,12 @@ fn choice(
     alloc: Global,
     words: &[Word],
     spot: Spot,
-    left: Placed,
-) -> Result<(Placed, Spot), ParseError>
+    left: Expression,
+) -> Result<(Expression, Spot), ParseError>
     requires ready { IsReady words.now spot }
     requires shallow { IsShallow spot }
-    ensures read { IfOk result (λ r. Turns words.now spot (λ back. T terminal.Question ∷ N form.Expression ∷ T terminal.Colon ∷ M In ∷ N form.Conditional ∷ M Out ∷ B MakeChoice ∷ back) (OfExpression left.place left.expression) r.1 (λ back. back) (OfExpression r.0.place r.0.expression)) }
-    ensures refused { IfErr result (Halts words.now spot (λ back. T terminal.Question ∷ N form.Expression ∷ T terminal.Colon ∷ M In ∷ N form.Conditional ∷ M Out ∷ B MakeChoice ∷ back) (OfExpression left.place left.expression)) }
+    ensures read { IfOk result (λ r. Turns words.now spot (λ back. T terminal.Question ∷ N form.Expression ∷ T terminal.Colon ∷ M In ∷ N form.Conditional ∷ M Out ∷ B MakeChoice ∷ back) (OfExpression left) r.1 (λ back. back) (OfExpression r.0)) }
+    ensures refused { IfErr result (Halts words.now spot (λ back. T terminal.Question ∷ N form.Expression ∷ T terminal.Colon ∷ M In ∷ N form.Conditional ∷ M Out ∷ B MakeChoice ∷ back) (OfExpression left)) }
 {
     let (_, one) = take(words, spot, Terminal::Question)?;
     let (first, two) = expression(alloc, words, one)?;
@@ -579,12 +573,12 @@ fn rest(
     alloc: Global,
     words: &[Word],
     spot: Spot,
-    left: Placed,
-) -> Result<(Placed, Spot), ParseError>
+    left: Expression,
+) -> Result<(Expression, Spot), ParseError>
     requires ready { IsReady words.now spot }
     requires shallow { IsShallow spot }
-    ensures read { IfOk result (λ r. Turns words.now spot (λ back. operands_between 0 10 (N form.PerhapsChoice ∷ back)) (OfExpression left.place left.expression) r.1 (λ back. back) (OfExpression r.0.place r.0.expression)) }
-    ensures refused { IfErr result (Halts words.now spot (λ back. operands_between 0 10 (N form.PerhapsChoice ∷ back)) (OfExpression left.place left.expression)) }
+    ensures read { IfOk result (λ r. Turns words.now spot (λ back. operands_between 0 10 (N form.PerhapsChoice ∷ back)) (OfExpression left) r.1 (λ back. back) (OfExpression r.0)) }
+    ensures refused { IfErr result (Halts words.now spot (λ back. operands_between 0 10 (N form.PerhapsChoice ∷ back)) (OfExpression left)) }
 {
     let (whole, one) = operands(alloc, words, spot, left, LEVELS)?;
     if !next_is(words, one.at, Terminal::Question) {
@@ -596,11 +590,11 @@ fn rest(
 
 /// An expression without assignment.
 #[cycle(expressions)]
-fn conditional(alloc: Global, words: &[Word], spot: Spot) -> Result<(Placed, Spot), ParseError>
+fn conditional(alloc: Global, words: &[Word], spot: Spot) -> Result<(Expression, Spot), ParseError>
     requires ready { IsReady words.now spot }
     requires shallow { IsShallow spot }
     requires room { spot.depth ≤ NESTING + 3 }
-    ensures read { IfOk result (λ r. Reads words.now spot (N form.Conditional ∷ []) r.1 (OfExpression r.0.place r.0.expression)) }
+    ensures read { IfOk result (λ r. Reads words.now spot (N form.Conditional ∷ []) r.1 (OfExpression r.0)) }
     ensures on { IfOk result (λ r. spot.at < r.1.at) }
     ensures refused { IfErr result (Breaks NESTING words.now spot (N form.Conditional ∷ [])) }
 {
@@ -615,21 +609,19 @@ fn assigned(
     alloc: Global,
     words: &[Word],
     spot: Spot,
-    left: Placed,
-) -> Result<(Placed, Spot), ParseError>
+    left: Expression,
+) -> Result<(Expression, Spot), ParseError>
     requires ready { IsReady words.now spot }
     requires shallow { IsShallow spot }
-    ensures read { IfOk result (λ r. Turns words.now spot (λ back. T terminal.Equals ∷ N form.Assign ∷ B MakeAssign ∷ back) (OfExpression left.place left.expression) r.1 (λ back. back) (OfExpression r.0.place r.0.expression)) }
-    ensures refused { IfErr result (Halts words.now spot (λ back. T terminal.Equals ∷ N form.Assign ∷ B MakeAssign ∷ back) (OfExpression left.place left.expression)) }
+    ensures read { IfOk result (λ r. Turns words.now spot (λ back. T terminal.Equals ∷ N form.Assign ∷ B MakeAssign ∷ back) (OfExpression left) r.1 (λ back. back) (OfExpression r.0)) }
+    ensures refused { IfErr result (Halts words.now spot (λ back. T terminal.Equals ∷ N form.Assign ∷ B MakeAssign ∷ back) (OfExpression left)) }
 {
     let (_, one) = take(words, spot, Terminal::Equals)?;
     let (right, two) = assign(alloc, words, one)?;
-    let to = Boxed::new(alloc, left.expression)?;
-    let from = Boxed::new(alloc, right.expression)?;
-    Ok((
-        at_place(left.place, ExpressionKind::Assign { to, from }),
-        two,
-    ))
+    let place = left.place;
+    let to = Boxed::new(alloc, left)?;
+    let from = Boxed::new(alloc, right)?;
+    Ok((at_place(place, ExpressionKind::Assign { to, from }), two))
 }
 
 /// What may stand behind an operand at the front of an expression.
@@ -638,13 +630,13 @@ fn after_unary(
     alloc: Global,
     words: &[Word],
     spot: Spot,
-    left: Placed,
-) -> Result<(Placed, Spot), ParseError>
+    left: Expression,
+) -> Result<(Expression, Spot), ParseError>
     requires ready { IsReady words.now spot }
     requires shallow { IsShallow spot }
     requires room { 1 ≤ spot.depth }
-    ensures read { IfOk result (λ r. Turns words.now spot (λ back. N (Left AfterUnary) ∷ back) (OfExpression left.place left.expression) r.1 (λ back. M Out ∷ back) (OfExpression r.0.place r.0.expression)) }
-    ensures refused { IfErr result (Halts words.now spot (λ back. N (Left AfterUnary) ∷ back) (OfExpression left.place left.expression)) }
+    ensures read { IfOk result (λ r. Turns words.now spot (λ back. N (Left AfterUnary) ∷ back) (OfExpression left) r.1 (λ back. M Out ∷ back) (OfExpression r.0)) }
+    ensures refused { IfErr result (Halts words.now spot (λ back. N (Left AfterUnary) ∷ back) (OfExpression left)) }
 {
     if next_is(words, spot.at, Terminal::Equals) {
         let (set, one) = assigned(alloc, words, spot, left)?;
@@ -656,11 +648,11 @@ fn after_unary(
 
 /// An expression, and inside of it assignments.
 #[cycle(expressions)]
-fn assign(alloc: Global, words: &[Word], spot: Spot) -> Result<(Placed, Spot), ParseError>
+fn assign(alloc: Global, words: &[Word], spot: Spot) -> Result<(Expression, Spot), ParseError>
     requires ready { IsReady words.now spot }
     requires shallow { IsShallow spot }
     requires room { spot.depth ≤ NESTING + 1 }
-    ensures read { IfOk result (λ r. Reads words.now spot (N form.Assign ∷ []) r.1 (OfExpression r.0.place r.0.expression)) }
+    ensures read { IfOk result (λ r. Reads words.now spot (N form.Assign ∷ []) r.1 (OfExpression r.0)) }
     ensures on { IfOk result (λ r. spot.at < r.1.at) }
     ensures refused { IfErr result (Breaks NESTING words.now spot (N form.Assign ∷ [])) }
 {
@@ -688,11 +680,15 @@ fn assign(alloc: Global, words: &[Word], spot: Spot) -> Result<(Placed, Spot), P
 
 /// An expression inside of another, or the whole of it.
 #[cycle(expressions)]
-pub fn expression(alloc: Global, words: &[Word], spot: Spot) -> Result<(Placed, Spot), ParseError>
+pub fn expression(
+    alloc: Global,
+    words: &[Word],
+    spot: Spot,
+) -> Result<(Expression, Spot), ParseError>
     requires ready { IsReady words.now spot }
     requires shallow { IsShallow spot }
     requires room { spot.depth ≤ NESTING + 1 }
-    ensures read { IfOk result (λ r. Reads words.now spot (N form.Expression ∷ []) r.1 (OfExpression r.0.place r.0.expression)) }
+    ensures read { IfOk result (λ r. Reads words.now spot (N form.Expression ∷ []) r.1 (OfExpression r.0)) }
     ensures on { IfOk result (λ r. spot.at < r.1.at) }
     ensures refused { IfErr result (Breaks NESTING words.now spot (N form.Expression ∷ [])) }
 {

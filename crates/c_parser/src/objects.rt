@@ -9,7 +9,7 @@ ghost use Rattle.std.specs.Prelude.{◌≡◌, ◌<◌, ◌≤◌, ◌+◌, [], 
 
 use crate::declarators::declarator;
 use crate::errors::ParseError;
-use crate::expressions::{Placed, expression};
+use crate::expressions::expression;
 use crate::operators::begins_expression;
 use crate::spot::{NESTING, Spot, next_is, take};
 use crate::types::specifier;
@@ -19,11 +19,11 @@ use c_grammar::{Terminal, Word};
 use std::alloc::Global;
 
 /// An expression that no other contains.
-pub fn whole(alloc: Global, words: &[Word], spot: Spot) -> Result<(Placed, Spot), ParseError>
+pub fn whole(alloc: Global, words: &[Word], spot: Spot) -> Result<(Expression, Spot), ParseError>
     requires ready { IsReady words.now spot }
     requires shallow { IsShallow spot }
     requires room { spot.depth ≤ NESTING + 1 }
-    ensures read { IfOk result (λ r. Reads words.now spot (N form.Whole ∷ []) r.1 (OfExpression r.0.place r.0.expression)) }
+    ensures read { IfOk result (λ r. Reads words.now spot (N form.Whole ∷ []) r.1 (OfExpression r.0)) }
     ensures none_ended { IfOk result (λ r. r.1.ended ≡ 0) }
     ensures on { IfOk result (λ r. spot.at < r.1.at) }
     ensures refused { IfErr result (Breaks NESTING words.now spot (N form.Whole ∷ [])) }
@@ -50,7 +50,7 @@ pub fn perhaps_whole(
         return Ok((None, spot));
     }
     let (value, one) = whole(alloc, words, spot)?;
-    let value = Boxed::new(alloc, value.expression)?;
+    let value = Boxed::new(alloc, value)?;
     Ok((Some(value), one))
 }
 
@@ -72,7 +72,7 @@ pub fn perhaps_start(
     }
     let (_, one) = take(words, spot, Terminal::Equals)?;
     let (value, two) = whole(alloc, words, one)?;
-    let value = Boxed::new(alloc, value.expression)?;
+    let value = Boxed::new(alloc, value)?;
     Ok((Some(value), two))
 }
 

@@ -12,12 +12,11 @@ ghost use Rattle.c_ast.specs.declared.program.StatementKind as statement;
 ghost use Rattle.std.specs.Prelude.{◌≡◌, ◌<◌, ◌≤◌, ◌+◌, true, None, Some, [], ◌∷◌, drop, IfErr, IfOk};
 
 use crate::errors::ParseError;
-use crate::expressions::Placed;
 use crate::objects::{declaration, perhaps_whole, whole};
 use crate::operators::{begins_evaluation, begins_item};
 use crate::spot::{NESTING, Spot, next_is, place_here, take, take_here};
 use crate::types::begins_type;
-use c_ast::program::{Block, BlockItem, Statement, StatementKind};
+use c_ast::program::{Block, BlockItem, Expression, Statement, StatementKind};
 use c_ast::{Boxed, Items};
 use c_grammar::{Terminal, Word};
 use std::alloc::Global;
@@ -92,11 +91,11 @@ fn continuing(words: &[Word], spot: Spot) -> Result<(StatementKind, Spot), Parse
 }
 
 /// An `if` without `else`.
-fn if_of(alloc: Global, test: Placed, first: Statement) -> Result<StatementKind, ParseError>
-    ensures value { IfOk result (λ r. r ≡ StatementKind.If test.expression first None) }
+fn if_of(alloc: Global, test: Expression, first: Statement) -> Result<StatementKind, ParseError>
+    ensures value { IfOk result (λ r. r ≡ StatementKind.If test first None) }
     ensures refused { IfErr result (λ e. e ≡ NoMemory) }
 {
-    let condition = Boxed::new(alloc, test.expression)?;
+    let condition = Boxed::new(alloc, test)?;
     let then = Boxed::new(alloc, first)?;
     let otherwise = None;
     Ok(StatementKind::If {
@@ -109,14 +108,14 @@ fn if_of(alloc: Global, test: Placed, first: Statement) -> Result<StatementKind,
 /// An `if` with `else`.
 fn either_of(
     alloc: Global,
-    test: Placed,
+    test: Expression,
     first: Statement,
     second: Statement,
 ) -> Result<StatementKind, ParseError>
-    ensures value { IfOk result (λ r. r ≡ StatementKind.If test.expression first (Some second)) }
+    ensures value { IfOk result (λ r. r ≡ StatementKind.If test first (Some second)) }
     ensures refused { IfErr result (λ e. e ≡ NoMemory) }
 {
-    let condition = Boxed::new(alloc, test.expression)?;
+    let condition = Boxed::new(alloc, test)?;
     let then = Boxed::new(alloc, first)?;
     let other = Boxed::new(alloc, second)?;
     let otherwise = Some(other);
@@ -128,21 +127,21 @@ fn either_of(
 }
 
 /// A `while` of its test and its body.
-fn while_of(alloc: Global, test: Placed, turn: Statement) -> Result<StatementKind, ParseError>
-    ensures value { IfOk result (λ r. r ≡ StatementKind.While test.expression turn) }
+fn while_of(alloc: Global, test: Expression, turn: Statement) -> Result<StatementKind, ParseError>
+    ensures value { IfOk result (λ r. r ≡ StatementKind.While test turn) }
     ensures refused { IfErr result (λ e. e ≡ NoMemory) }
 {
-    let condition = Boxed::new(alloc, test.expression)?;
+    let condition = Boxed::new(alloc, test)?;
     let body = Boxed::new(alloc, turn)?;
     Ok(StatementKind::While { condition, body })
 }
 
 /// A `do` of its body and its test.
-fn do_of(alloc: Global, turn: Statement, test: Placed) -> Result<StatementKind, ParseError>
-    ensures value { IfOk result (λ r. r ≡ StatementKind.DoWhile turn test.expression) }
+fn do_of(alloc: Global, turn: Statement, test: Expression) -> Result<StatementKind, ParseError>
+    ensures value { IfOk result (λ r. r ≡ StatementKind.DoWhile turn test) }
     ensures refused { IfErr result (λ e. e ≡ NoMemory) }
 {
-    let condition = Boxed::new(alloc, test.expression)?;
+    let condition = Boxed::new(alloc, test)?;
     let body = Boxed::new(alloc, turn)?;
     Ok(StatementKind::DoWhile { body, condition })
 }

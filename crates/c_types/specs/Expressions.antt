@@ -12,7 +12,7 @@ use Rattle.c_ast.specs.declared.program.TypeName.{TypeName}
 use Rattle.c_ast.specs.declared.program.PrefixOp.{PrefixOp}
 use Rattle.c_ast.specs.declared.program.PrefixOp.TheVariants.{Negate, Complement, IsZero, Follow, Address}
 use Rattle.c_ast.specs.declared.program.Expression.{Expression}
-use Rattle.c_ast.specs.declared.program.ExpressionKind.TheOpen.{ExpressionKind-F, Name, Number, Character, String, Prefix, Sizeof, Cast, Infix, Choice, Assign, Call, Index, Member, Arrow}
+use Rattle.c_ast.specs.declared.program.ExpressionKind.TheOpen.{ExpressionKind-F, Name, Number, Character, String, Bracket, Prefix, Sizeof, Cast, Infix, Choice, Assign, Call, Index, Member, Arrow}
 use Rattle.c_ast.specs.declared.program.ExpressionKind.TheFolds.{fold-Expression}
 use Rattle.c_types.specs.declared.rules.TheConstants.{K2}
 use Rattle.c_types.specs.declared.parts.Form.{Form}
@@ -126,6 +126,8 @@ kind_step (Number value) place is_called known notes =
     record { part = constant place (number_form value) value; notes = notes }
 kind_step (Character value) place is_called known notes = record { part = constant place Value value; notes = notes }
 kind_step (String number) place is_called known notes = string place number (slice_index known.string_sizes number) notes
+-- brackets are no node, and what stands in them keeps its own place
+kind_step (Bracket inner) place is_called known notes = inner is_called known notes
 kind_step (Prefix op operand) place is_called known notes =
     let e : Typing = operand false known notes in
     prefix place op e.part e.notes

@@ -91,7 +91,7 @@ fn assignments_and_choices(rt: HostRuntime) -> Result<(), Fail> {
             ("a = b + c", "=@20 name@20 +@24 "),
             ("*a = b", "=@20 *x@20 name@25 "),
             ("a[b] = c", "=@20 index@20 name@27 "),
-            ("(a ? b : c) ? d : e", "?:@20 ?:@21 name@38 "),
+            ("(a ? b : c) ? d : e", "?:@20 (@20 ?:@21 name@38 "),
         ],
     )
 }
@@ -119,9 +119,9 @@ fn signs_casts_and_suffixes(rt: HostRuntime) -> Result<(), Fail> {
             ("a.b[c]", "index@20 member@20 name@24 "),
             ("a[b].c", "member@20 index@20 - "),
             ("f(a)(b)", "call@20 call@20 name@25 "),
-            ("(a + b) * c", "*@20 +@21 name@30 "),
-            ("a * (b + c)", "*@20 name@20 +@25 "),
-            ("a - (b - c)", "-@20 name@20 -@25 "),
+            ("(a + b) * c", "*@20 (@20 +@21 name@30 "),
+            ("a * (b + c)", "*@20 name@20 (@24 +@25 "),
+            ("a - (b - c)", "-@20 name@20 (@24 -@25 "),
         ],
     )
 }

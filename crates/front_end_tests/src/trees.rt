@@ -134,6 +134,7 @@ pub fn kind_of(expression: &Expression) -> &'static str {
         ExpressionKind::Number { .. } => "number",
         ExpressionKind::Character { .. } => "character",
         ExpressionKind::String { .. } => "string",
+        ExpressionKind::Bracket { .. } => "(",
         ExpressionKind::Prefix { op, .. } => prefix_of(*op),
         ExpressionKind::Sizeof { .. } => "sizeof",
         ExpressionKind::Cast { .. } => "cast",
@@ -147,9 +148,10 @@ pub fn kind_of(expression: &Expression) -> &'static str {
     }
 }
 
-/// The first part.
+/// The first part, of what is in brackets where they are around it.
 pub fn left(expression: &Expression) -> Option<&Expression> {
     match &expression.kind {
+        ExpressionKind::Bracket { inner } => left(inner.get()),
         ExpressionKind::Prefix { operand, .. } => Some(operand.get()),
         ExpressionKind::Cast { operand, .. } => Some(operand.get()),
         ExpressionKind::Infix { left, .. } => Some(left.get()),
@@ -163,9 +165,11 @@ pub fn left(expression: &Expression) -> Option<&Expression> {
     }
 }
 
-/// The last part of two or three, and a call's first argument.
+/// The last part of two or three, and a call's first argument, of what is in brackets where they
+/// are around it.
 pub fn right(expression: &Expression) -> Option<&Expression> {
     match &expression.kind {
+        ExpressionKind::Bracket { inner } => right(inner.get()),
         ExpressionKind::Infix { right, .. } => Some(right.get()),
         ExpressionKind::Choice { otherwise, .. } => Some(otherwise.get()),
         ExpressionKind::Assign { from, .. } => Some(from.get()),
@@ -175,13 +179,24 @@ pub fn right(expression: &Expression) -> Option<&Expression> {
     }
 }
 
-/// The kind and the place of a node.
-pub fn write_node(out: &mut String, node: Option<&Expression>) -> Result<(), Fail> {
-    match node {
-        Some(node) => write!(out, "{}@{} ", kind_of(node), node.place)?,
-        None => write!(out, "- ")?,
+/// The kind and the place of a node, and behind brackets of what is in them.
+fn write_whole(out: &mut String, node: &Expression) -> Result<(), Fail> {
+    write!(out, "{}@{} ", kind_of(node), node.place)?;
+    if let ExpressionKind::Bracket { inner } = &node.kind {
+        write_whole(out, inner.get())?;
     }
     Ok(())
+}
+
+/// The kind and the place of a node, if there is one.
+pub fn write_node(out: &mut String, node: Option<&Expression>) -> Result<(), Fail> {
+    match node {
+        Some(node) => write_whole(out, node),
+        None => {
+            write!(out, "- ")?;
+            Ok(())
+        }
+    }
 }
 
 /// A node with its left and its right part.

@@ -28,11 +28,6 @@ node_within vars (Fixed Priv) is = omega arith
 node_within vars (Fixed Pub) is = omega arith
 node_within vars (Var v) is = omega (arith, is)
 
-pub has_nodes : (vars : ℕ) (list : List Constraint) → All (IsOver vars) list → All (HasNodes (vars + 2)) list
-has_nodes vars list over n d lt =
-    let is = over n d lt in
-    record { from = node_within vars (get_or list n d).from is.from; to = node_within vars (get_or list n d).to is.to }
-
 -- ---- a reached end but the start has an open constraint that leads there from a step nearer
 
 record Before (list : List Constraint) (distances : List ℕ) (end : Qual) (n : ℕ) : Type 0 where

@@ -74,19 +74,19 @@ primary-returns-clause-read t c =
 
 pub index-returns-in_err-one-clause-refused : goal.index-returns-in_err-one-clause-refused
 index-returns-in_err-one-clause-refused t c =
-    halts_so c.args.words.now c.args.spot (λ back. T terminal.OpenBracket ∷ N form.Expression ∷ T terminal.CloseBracket ∷ M CountOperator ∷ B MakeIndex ∷ back) (OfExpression c.args.left.place c.args.left.expression) c.from_residual.result c.in_err-one.field-0.0 c.from_residual.ensures.1 (λ start all left values p.
+    halts_so c.args.words.now c.args.spot (λ back. T terminal.OpenBracket ∷ N form.Expression ∷ T terminal.CloseBracket ∷ M CountOperator ∷ B MakeIndex ∷ back) (OfExpression c.args.left) c.from_residual.result c.in_err-one.field-0.0 c.from_residual.ensures.1 (λ start all left values p.
     stops_at (T terminal.OpenBracket ∷ []) _ c.in_err-one.field-0.0 p c.in_err-one.ensures.no_token)
 
 pub index-returns-in_err-inner-clause-refused : goal.index-returns-in_err-inner-clause-refused
 index-returns-in_err-inner-clause-refused t c =
-    halts_so c.args.words.now c.args.spot (λ back. T terminal.OpenBracket ∷ N form.Expression ∷ T terminal.CloseBracket ∷ M CountOperator ∷ B MakeIndex ∷ back) (OfExpression c.args.left.place c.args.left.expression) c.from_residual-in_err-inner.result c.in_err-inner.field-0.0 c.from_residual-in_err-inner.ensures.1 (λ start all left values p.
+    halts_so c.args.words.now c.args.spot (λ back. T terminal.OpenBracket ∷ N form.Expression ∷ T terminal.CloseBracket ∷ M CountOperator ∷ B MakeIndex ∷ back) (OfExpression c.args.left) c.from_residual-in_err-inner.result c.in_err-inner.field-0.0 c.from_residual-in_err-inner.ensures.1 (λ start all left values p.
     let p1 = read c.in_ok-one.ensures.token p in
     let m1 : Moves c.args.words.now c.args.spot c.in_ok-one.one = moved_by_one c.in_ok-one.ensures.place c.in_ok-one.ensures.more (c.requires.shallow.ended) in
     stops_at (N form.Expression ∷ []) _ c.in_err-inner.field-0.0 p1 c.in_err-inner.ensures.refused)
 
 pub index-returns-in_err-three-clause-refused : goal.index-returns-in_err-three-clause-refused
 index-returns-in_err-three-clause-refused t c =
-    halts_so c.args.words.now c.args.spot (λ back. T terminal.OpenBracket ∷ N form.Expression ∷ T terminal.CloseBracket ∷ M CountOperator ∷ B MakeIndex ∷ back) (OfExpression c.args.left.place c.args.left.expression) c.from_residual-in_err-three.result c.in_err-three.field-0.0 c.from_residual-in_err-three.ensures.1 (λ start all left values p.
+    halts_so c.args.words.now c.args.spot (λ back. T terminal.OpenBracket ∷ N form.Expression ∷ T terminal.CloseBracket ∷ M CountOperator ∷ B MakeIndex ∷ back) (OfExpression c.args.left) c.from_residual-in_err-three.result c.in_err-three.field-0.0 c.from_residual-in_err-three.ensures.1 (λ start all left values p.
     let p1 = read c.in_ok-one.ensures.token p in
     let m1 : Moves c.args.words.now c.args.spot c.in_ok-one.one = moved_by_one c.in_ok-one.ensures.place c.in_ok-one.ensures.more (c.requires.shallow.ended) in
     let p2 = read c.in_ok-inner.ensures.read.leads p1 in
@@ -111,19 +111,19 @@ index-returns-clause-read t c =
 
 pub call-returns-in_err-one-clause-refused : goal.call-returns-in_err-one-clause-refused
 call-returns-in_err-one-clause-refused t c =
-    halts_so c.args.words.now c.args.spot (λ back. T terminal.Open ∷ N form.Arguments ∷ T terminal.Close ∷ M CountOperator ∷ B MakeCall ∷ back) (OfExpression c.args.left.place c.args.left.expression) c.from_residual.result c.in_err-one.field-0.0 c.from_residual.ensures.1 (λ start all left values p.
+    halts_so c.args.words.now c.args.spot (λ back. T terminal.Open ∷ N form.Arguments ∷ T terminal.Close ∷ M CountOperator ∷ B MakeCall ∷ back) (OfExpression c.args.left) c.from_residual.result c.in_err-one.field-0.0 c.from_residual.ensures.1 (λ start all left values p.
     stops_at (T terminal.Open ∷ []) _ c.in_err-one.field-0.0 p c.in_err-one.ensures.no_token)
 
 pub call-returns-in_err-arguments-clause-refused : goal.call-returns-in_err-arguments-clause-refused
 call-returns-in_err-arguments-clause-refused t c =
-    halts_so c.args.words.now c.args.spot (λ back. T terminal.Open ∷ N form.Arguments ∷ T terminal.Close ∷ M CountOperator ∷ B MakeCall ∷ back) (OfExpression c.args.left.place c.args.left.expression) c.from_residual-in_err-arguments.result c.in_err-arguments.field-0.0 c.from_residual-in_err-arguments.ensures.1 (λ start all left values p.
+    halts_so c.args.words.now c.args.spot (λ back. T terminal.Open ∷ N form.Arguments ∷ T terminal.Close ∷ M CountOperator ∷ B MakeCall ∷ back) (OfExpression c.args.left) c.from_residual-in_err-arguments.result c.in_err-arguments.field-0.0 c.from_residual-in_err-arguments.ensures.1 (λ start all left values p.
     let p1 = read c.in_ok-one.ensures.token p in
     let m1 : Moves c.args.words.now c.args.spot c.in_ok-one.one = moved_by_one c.in_ok-one.ensures.place c.in_ok-one.ensures.more (c.requires.shallow.ended) in
     stops_at (N form.Arguments ∷ []) _ c.in_err-arguments.field-0.0 p1 c.in_err-arguments.ensures.refused)
 
 pub call-returns-in_err-three-clause-refused : goal.call-returns-in_err-three-clause-refused
 call-returns-in_err-three-clause-refused t c =
-    halts_so c.args.words.now c.args.spot (λ back. T terminal.Open ∷ N form.Arguments ∷ T terminal.Close ∷ M CountOperator ∷ B MakeCall ∷ back) (OfExpression c.args.left.place c.args.left.expression) c.from_residual-in_err-three.result c.in_err-three.field-0.0 c.from_residual-in_err-three.ensures.1 (λ start all left values p.
+    halts_so c.args.words.now c.args.spot (λ back. T terminal.Open ∷ N form.Arguments ∷ T terminal.Close ∷ M CountOperator ∷ B MakeCall ∷ back) (OfExpression c.args.left) c.from_residual-in_err-three.result c.in_err-three.field-0.0 c.from_residual-in_err-three.ensures.1 (λ start all left values p.
     let p1 = read c.in_ok-one.ensures.token p in
     let m1 : Moves c.args.words.now c.args.spot c.in_ok-one.one = moved_by_one c.in_ok-one.ensures.place c.in_ok-one.ensures.more (c.requires.shallow.ended) in
     let p2 = read c.in_ok-arguments.ensures.read.leads p1 in
@@ -148,7 +148,7 @@ call-returns-clause-read t c =
 
 pub suffix-returns-in_err-longer-clause-refused : goal.suffix-returns-in_err-longer-clause-refused
 suffix-returns-in_err-longer-clause-refused t c =
-    halts_so c.args.words.now c.args.spot (λ back. N form.Suffixes ∷ back) (OfExpression c.args.left.place c.args.left.expression) c.from_residual.result c.in_err-longer.field-0.0 c.from_residual.ensures.1 (λ start all left values p.
+    halts_so c.args.words.now c.args.spot (λ back. N form.Suffixes ∷ back) (OfExpression c.args.left) c.from_residual.result c.in_err-longer.field-0.0 c.from_residual.ensures.1 (λ start all left values p.
     let p1 = by_rule form.Suffixes 0 (number_at form.Suffixes terminal.OpenBracket (λ w ws. refl) (drop c.args.spot.at c.args.words.now) (sym c.next_is.ensures ∙ c.if-next_is.true)) (lit< tt) p in
     c.in_err-longer.ensures.refused.halts _ _ (N form.Suffixes ∷ left) _ p1)
 
@@ -165,7 +165,7 @@ suffix-returns-then-next_is-clause-read t c =
 
 pub suffix-returns-in_err-called-clause-refused : goal.suffix-returns-in_err-called-clause-refused
 suffix-returns-in_err-called-clause-refused t c =
-    halts_so c.args.words.now c.args.spot (λ back. N form.Suffixes ∷ back) (OfExpression c.args.left.place c.args.left.expression) c.from_residual-in_err-called.result c.in_err-called.field-0.0 c.from_residual-in_err-called.ensures.1 (λ start all left values p.
+    halts_so c.args.words.now c.args.spot (λ back. N form.Suffixes ∷ back) (OfExpression c.args.left) c.from_residual-in_err-called.result c.in_err-called.field-0.0 c.from_residual-in_err-called.ensures.1 (λ start all left values p.
     let p13 = by_rule form.Suffixes 1 (number_at form.Suffixes terminal.Open (λ w ws. refl) (drop c.args.spot.at c.args.words.now) (sym c.next_is-2.ensures ∙ c.if-next_is-2.true)) (lit< tt) p in
     c.in_err-called.ensures.refused.halts _ _ (N form.Suffixes ∷ left) _ p13)
 
@@ -182,7 +182,7 @@ suffix-returns-then-next_is-2-clause-read t c =
 
 pub suffix-returns-in_err-part-clause-refused : goal.suffix-returns-in_err-part-clause-refused
 suffix-returns-in_err-part-clause-refused t c =
-    halts_so c.args.words.now c.args.spot (λ back. N form.Suffixes ∷ back) (OfExpression c.args.left.place c.args.left.expression) c.from_residual-in_err-part.result c.in_err-part.field-0.0 c.from_residual-in_err-part.ensures.1 (λ start all left values p.
+    halts_so c.args.words.now c.args.spot (λ back. N form.Suffixes ∷ back) (OfExpression c.args.left) c.from_residual-in_err-part.result c.in_err-part.field-0.0 c.from_residual-in_err-part.ensures.1 (λ start all left values p.
     let p25 = by_rule form.Suffixes 2 (number_at form.Suffixes terminal.Dot (λ w ws. refl) (drop c.args.spot.at c.args.words.now) (sym c.next_is-3.ensures ∙ c.if-next_is-3.true)) (lit< tt) p in
     c.in_err-part.ensures.refused.halts _ _ (N form.Suffixes ∷ left) _ p25)
 
@@ -199,7 +199,7 @@ suffix-returns-then-next_is-3-clause-read t c =
 
 pub suffix-returns-in_err-pointed-clause-refused : goal.suffix-returns-in_err-pointed-clause-refused
 suffix-returns-in_err-pointed-clause-refused t c =
-    halts_so c.args.words.now c.args.spot (λ back. N form.Suffixes ∷ back) (OfExpression c.args.left.place c.args.left.expression) c.from_residual-in_err-pointed.result c.in_err-pointed.field-0.0 c.from_residual-in_err-pointed.ensures.1 (λ start all left values p.
+    halts_so c.args.words.now c.args.spot (λ back. N form.Suffixes ∷ back) (OfExpression c.args.left) c.from_residual-in_err-pointed.result c.in_err-pointed.field-0.0 c.from_residual-in_err-pointed.ensures.1 (λ start all left values p.
     let p37 = by_rule form.Suffixes 3 (number_at form.Suffixes terminal.Arrow (λ w ws. refl) (drop c.args.spot.at c.args.words.now) (arrow_next (drop c.args.spot.at c.args.words.now) c.requires.next (sym c.next_is.ensures ∙ c.if-next_is.false) (sym c.next_is-2.ensures ∙ c.if-next_is-2.false) (sym c.next_is-3.ensures ∙ c.if-next_is-3.false))) (lit< tt) p in
     c.in_err-pointed.ensures.refused.halts _ _ (N form.Suffixes ∷ left) _ p37)
 
@@ -219,7 +219,7 @@ suffixes-loop-alloc-init t c = turns_not c.requires.shallow.ended c.requires.rea
 
 pub suffixes-returns-in_err-longer-clause-refused : goal.suffixes-returns-in_err-longer-clause-refused
 suffixes-returns-in_err-longer-clause-refused t c =
-    halts_so c.args.words.now c.args.spot (λ back. N form.Suffixes ∷ back) (OfExpression c.args.left.place c.args.left.expression) c.from_residual.result c.in_err-longer.field-0.0 c.from_residual.ensures.1 (λ start all left values p.
+    halts_so c.args.words.now c.args.spot (λ back. N form.Suffixes ∷ back) (OfExpression c.args.left) c.from_residual.result c.in_err-longer.field-0.0 c.from_residual.ensures.1 (λ start all left values p.
     c.in_err-longer.ensures.refused.halts _ _ left _ (c.loop-alloc.invariant.turns start all left values p))
 
 pub suffixes-loop-alloc-preserved : goal.suffixes-loop-alloc-preserved
@@ -394,12 +394,12 @@ cast-returns-clause-read t c =
 
 pub infix-returns-in_err-one-clause-refused : goal.infix-returns-in_err-one-clause-refused
 infix-returns-in_err-one-clause-refused t c =
-    halts_so c.args.words.now c.args.spot (λ back. T c.args.operator.sign ∷ M CountOperator ∷ N (operand (level_at c.args.operator.level)) ∷ B (MakeInfix c.args.operator.op) ∷ back) (OfExpression c.args.left.place c.args.left.expression) c.from_residual.result c.in_err-one.field-0.0 c.from_residual.ensures.1 (λ start all left values p.
+    halts_so c.args.words.now c.args.spot (λ back. T c.args.operator.sign ∷ M CountOperator ∷ N (operand (level_at c.args.operator.level)) ∷ B (MakeInfix c.args.operator.op) ∷ back) (OfExpression c.args.left) c.from_residual.result c.in_err-one.field-0.0 c.from_residual.ensures.1 (λ start all left values p.
     stops_at (T c.args.operator.sign ∷ []) _ c.in_err-one.field-0.0 p c.in_err-one.ensures.no_token)
 
 pub infix-returns-in_err-other-clause-refused : goal.infix-returns-in_err-other-clause-refused
 infix-returns-in_err-other-clause-refused t c =
-    halts_so c.args.words.now c.args.spot (λ back. T c.args.operator.sign ∷ M CountOperator ∷ N (operand (level_at c.args.operator.level)) ∷ B (MakeInfix c.args.operator.op) ∷ back) (OfExpression c.args.left.place c.args.left.expression) c.from_residual-in_err-other.result c.in_err-other.field-0.0 c.from_residual-in_err-other.ensures.1 (λ start all left values p.
+    halts_so c.args.words.now c.args.spot (λ back. T c.args.operator.sign ∷ M CountOperator ∷ N (operand (level_at c.args.operator.level)) ∷ B (MakeInfix c.args.operator.op) ∷ back) (OfExpression c.args.left) c.from_residual-in_err-other.result c.in_err-other.field-0.0 c.from_residual-in_err-other.ensures.1 (λ start all left values p.
     let p1 = read c.in_ok-one.ensures.token p in
     let m1 : Moves c.args.words.now c.args.spot c.in_ok-one.one = moved_by_one c.in_ok-one.ensures.place c.in_ok-one.ensures.more (c.requires.shallow.ended) in
     let p2 = counted p1 in
@@ -425,7 +425,7 @@ operands-loop-operator-init t c = record { turned = turns_not c.requires.shallow
 
 pub operands-returns-in_err-longer-clause-refused : goal.operands-returns-in_err-longer-clause-refused
 operands-returns-in_err-longer-clause-refused t c =
-    halts_so c.args.words.now c.args.spot (operands_between 0 c.args.bound) (OfExpression c.args.left.place c.args.left.expression) c.from_residual.result c.in_err-longer.field-0.0 c.from_residual.ensures.1 (λ start all left values p.
+    halts_so c.args.words.now c.args.spot (operands_between 0 c.args.bound) (OfExpression c.args.left) c.from_residual.result c.in_err-longer.field-0.0 c.from_residual.ensures.1 (λ start all left values p.
     c.in_err-longer.ensures.refused.halts _ _ (operands_between c.in-Some.operator.level c.args.bound left) _
     (to_operator left c.loop-operator.passed c.args.bound c.in-Some.operator c.requires.bound c.in-Some.ensures.found (c.loop-operator.invariant.turned.turns start all left values p)))
 
@@ -472,19 +472,19 @@ operand-returns-clause-read t c =
 
 pub choice-returns-in_err-one-clause-refused : goal.choice-returns-in_err-one-clause-refused
 choice-returns-in_err-one-clause-refused t c =
-    halts_so c.args.words.now c.args.spot (λ back. T terminal.Question ∷ N form.Expression ∷ T terminal.Colon ∷ M In ∷ N form.Conditional ∷ M Out ∷ B MakeChoice ∷ back) (OfExpression c.args.left.place c.args.left.expression) c.from_residual.result c.in_err-one.field-0.0 c.from_residual.ensures.1 (λ start all left values p.
+    halts_so c.args.words.now c.args.spot (λ back. T terminal.Question ∷ N form.Expression ∷ T terminal.Colon ∷ M In ∷ N form.Conditional ∷ M Out ∷ B MakeChoice ∷ back) (OfExpression c.args.left) c.from_residual.result c.in_err-one.field-0.0 c.from_residual.ensures.1 (λ start all left values p.
     stops_at (T terminal.Question ∷ []) _ c.in_err-one.field-0.0 p c.in_err-one.ensures.no_token)
 
 pub choice-returns-in_err-first-clause-refused : goal.choice-returns-in_err-first-clause-refused
 choice-returns-in_err-first-clause-refused t c =
-    halts_so c.args.words.now c.args.spot (λ back. T terminal.Question ∷ N form.Expression ∷ T terminal.Colon ∷ M In ∷ N form.Conditional ∷ M Out ∷ B MakeChoice ∷ back) (OfExpression c.args.left.place c.args.left.expression) c.from_residual-in_err-first.result c.in_err-first.field-0.0 c.from_residual-in_err-first.ensures.1 (λ start all left values p.
+    halts_so c.args.words.now c.args.spot (λ back. T terminal.Question ∷ N form.Expression ∷ T terminal.Colon ∷ M In ∷ N form.Conditional ∷ M Out ∷ B MakeChoice ∷ back) (OfExpression c.args.left) c.from_residual-in_err-first.result c.in_err-first.field-0.0 c.from_residual-in_err-first.ensures.1 (λ start all left values p.
     let p1 = read c.in_ok-one.ensures.token p in
     let m1 : Moves c.args.words.now c.args.spot c.in_ok-one.one = moved_by_one c.in_ok-one.ensures.place c.in_ok-one.ensures.more (c.requires.shallow.ended) in
     stops_at (N form.Expression ∷ []) _ c.in_err-first.field-0.0 p1 c.in_err-first.ensures.refused)
 
 pub choice-returns-in_err-three-clause-refused : goal.choice-returns-in_err-three-clause-refused
 choice-returns-in_err-three-clause-refused t c =
-    halts_so c.args.words.now c.args.spot (λ back. T terminal.Question ∷ N form.Expression ∷ T terminal.Colon ∷ M In ∷ N form.Conditional ∷ M Out ∷ B MakeChoice ∷ back) (OfExpression c.args.left.place c.args.left.expression) c.from_residual-in_err-three.result c.in_err-three.field-0.0 c.from_residual-in_err-three.ensures.1 (λ start all left values p.
+    halts_so c.args.words.now c.args.spot (λ back. T terminal.Question ∷ N form.Expression ∷ T terminal.Colon ∷ M In ∷ N form.Conditional ∷ M Out ∷ B MakeChoice ∷ back) (OfExpression c.args.left) c.from_residual-in_err-three.result c.in_err-three.field-0.0 c.from_residual-in_err-three.ensures.1 (λ start all left values p.
     let p1 = read c.in_ok-one.ensures.token p in
     let m1 : Moves c.args.words.now c.args.spot c.in_ok-one.one = moved_by_one c.in_ok-one.ensures.place c.in_ok-one.ensures.more (c.requires.shallow.ended) in
     let p2 = read c.in_ok-first.ensures.read.leads p1 in
@@ -493,7 +493,7 @@ choice-returns-in_err-three-clause-refused t c =
 
 pub choice-returns-in_err-second-clause-refused : goal.choice-returns-in_err-second-clause-refused
 choice-returns-in_err-second-clause-refused t c =
-    halts_so c.args.words.now c.args.spot (λ back. T terminal.Question ∷ N form.Expression ∷ T terminal.Colon ∷ M In ∷ N form.Conditional ∷ M Out ∷ B MakeChoice ∷ back) (OfExpression c.args.left.place c.args.left.expression) c.from_residual-in_err-second.result c.in_err-second.field-0.0 c.from_residual-in_err-second.ensures.1 (λ start all left values p.
+    halts_so c.args.words.now c.args.spot (λ back. T terminal.Question ∷ N form.Expression ∷ T terminal.Colon ∷ M In ∷ N form.Conditional ∷ M Out ∷ B MakeChoice ∷ back) (OfExpression c.args.left) c.from_residual-in_err-second.result c.in_err-second.field-0.0 c.from_residual-in_err-second.ensures.1 (λ start all left values p.
     let p1 = read c.in_ok-one.ensures.token p in
     let m1 : Moves c.args.words.now c.args.spot c.in_ok-one.one = moved_by_one c.in_ok-one.ensures.place c.in_ok-one.ensures.more (c.requires.shallow.ended) in
     let p2 = read c.in_ok-first.ensures.read.leads p1 in
@@ -522,11 +522,11 @@ choice-returns-clause-read t c =
 
 pub choice-returns-in_err-chosen-clause-refused : goal.choice-returns-in_err-chosen-clause-refused
 choice-returns-in_err-chosen-clause-refused t c =
-    halts_memory c.args.words.now c.args.spot (λ back. T terminal.Question ∷ N form.Expression ∷ T terminal.Colon ∷ M In ∷ N form.Conditional ∷ M Out ∷ B MakeChoice ∷ back) (OfExpression c.args.left.place c.args.left.expression) c.from_residual-in_err-chosen.result c.in_err-chosen.field-0.0 c.from_residual-in_err-chosen.ensures.1 c.in_err-chosen.ensures.refused
+    halts_memory c.args.words.now c.args.spot (λ back. T terminal.Question ∷ N form.Expression ∷ T terminal.Colon ∷ M In ∷ N form.Conditional ∷ M Out ∷ B MakeChoice ∷ back) (OfExpression c.args.left) c.from_residual-in_err-chosen.result c.in_err-chosen.field-0.0 c.from_residual-in_err-chosen.ensures.1 c.in_err-chosen.ensures.refused
 
 pub rest-returns-in_err-whole-clause-refused : goal.rest-returns-in_err-whole-clause-refused
 rest-returns-in_err-whole-clause-refused t c =
-    halts_so c.args.words.now c.args.spot (λ back. operands_between 0 10 (N form.PerhapsChoice ∷ back)) (OfExpression c.args.left.place c.args.left.expression) c.from_residual.result c.in_err-whole.field-0.0 c.from_residual.ensures.1 (λ start all left values p.
+    halts_so c.args.words.now c.args.spot (λ back. operands_between 0 10 (N form.PerhapsChoice ∷ back)) (OfExpression c.args.left) c.from_residual.result c.in_err-whole.field-0.0 c.from_residual.ensures.1 (λ start all left values p.
     c.in_err-whole.ensures.refused.halts _ _ (N form.PerhapsChoice ∷ left) _ p)
 
 pub rest-returns-then-not-next_is-clause-read : goal.rest-returns-then-not-next_is-clause-read
@@ -541,7 +541,7 @@ rest-returns-then-not-next_is-clause-read t c =
 
 pub rest-returns-in_err-chosen-clause-refused : goal.rest-returns-in_err-chosen-clause-refused
 rest-returns-in_err-chosen-clause-refused t c =
-    halts_so c.args.words.now c.args.spot (λ back. operands_between 0 10 (N form.PerhapsChoice ∷ back)) (OfExpression c.args.left.place c.args.left.expression) c.from_residual-in_err-chosen.result c.in_err-chosen.field-0.0 c.from_residual-in_err-chosen.ensures.1 (λ start all left values p.
+    halts_so c.args.words.now c.args.spot (λ back. operands_between 0 10 (N form.PerhapsChoice ∷ back)) (OfExpression c.args.left) c.from_residual-in_err-chosen.result c.in_err-chosen.field-0.0 c.from_residual-in_err-chosen.ensures.1 (λ start all left values p.
     let p1 = c.in_ok-whole.ensures.read.turns _ _ (N form.PerhapsChoice ∷ left) _ p in
     let m1 : Moves c.args.words.now c.args.spot c.in_ok-whole.one = c.in_ok-whole.ensures.read.moves in
     let p2 = by_rule form.PerhapsChoice 0 (number_else form.PerhapsChoice terminal.Question (λ w ws. refl) refl (drop c.in_ok-whole.one.at c.args.words.now) true (sym c.next_is.ensures ∙ c.if-not-next_is.false)) (lit< tt) p1 in
@@ -583,12 +583,12 @@ conditional-returns-clause-read t c =
 
 pub assigned-returns-in_err-one-clause-refused : goal.assigned-returns-in_err-one-clause-refused
 assigned-returns-in_err-one-clause-refused t c =
-    halts_so c.args.words.now c.args.spot (λ back. T terminal.Equals ∷ N form.Assign ∷ B MakeAssign ∷ back) (OfExpression c.args.left.place c.args.left.expression) c.from_residual.result c.in_err-one.field-0.0 c.from_residual.ensures.1 (λ start all left values p.
+    halts_so c.args.words.now c.args.spot (λ back. T terminal.Equals ∷ N form.Assign ∷ B MakeAssign ∷ back) (OfExpression c.args.left) c.from_residual.result c.in_err-one.field-0.0 c.from_residual.ensures.1 (λ start all left values p.
     stops_at (T terminal.Equals ∷ []) _ c.in_err-one.field-0.0 p c.in_err-one.ensures.no_token)
 
 pub assigned-returns-in_err-right-clause-refused : goal.assigned-returns-in_err-right-clause-refused
 assigned-returns-in_err-right-clause-refused t c =
-    halts_so c.args.words.now c.args.spot (λ back. T terminal.Equals ∷ N form.Assign ∷ B MakeAssign ∷ back) (OfExpression c.args.left.place c.args.left.expression) c.from_residual-in_err-right.result c.in_err-right.field-0.0 c.from_residual-in_err-right.ensures.1 (λ start all left values p.
+    halts_so c.args.words.now c.args.spot (λ back. T terminal.Equals ∷ N form.Assign ∷ B MakeAssign ∷ back) (OfExpression c.args.left) c.from_residual-in_err-right.result c.in_err-right.field-0.0 c.from_residual-in_err-right.ensures.1 (λ start all left values p.
     let p1 = read c.in_ok-one.ensures.token p in
     let m1 : Moves c.args.words.now c.args.spot c.in_ok-one.one = moved_by_one c.in_ok-one.ensures.place c.in_ok-one.ensures.more (c.requires.shallow.ended) in
     stops_at (N form.Assign ∷ []) _ c.in_err-right.field-0.0 p1 c.in_err-right.ensures.refused)
@@ -607,7 +607,7 @@ assigned-returns-clause-read t c =
 
 pub after_unary-returns-in_err-set-clause-refused : goal.after_unary-returns-in_err-set-clause-refused
 after_unary-returns-in_err-set-clause-refused t c =
-    halts_so c.args.words.now c.args.spot (λ back. N (Left AfterUnary) ∷ back) (OfExpression c.args.left.place c.args.left.expression) c.from_residual.result c.in_err-set.field-0.0 c.from_residual.ensures.1 (λ start all left values p.
+    halts_so c.args.words.now c.args.spot (λ back. N (Left AfterUnary) ∷ back) (OfExpression c.args.left) c.from_residual.result c.in_err-set.field-0.0 c.from_residual.ensures.1 (λ start all left values p.
     let p1 = by_rule (Left AfterUnary) 0 (number_at (Left AfterUnary) terminal.Equals (λ w ws. refl) (drop c.args.spot.at c.args.words.now) (sym c.next_is.ensures ∙ c.if-next_is.true)) (lit< tt) p in
     c.in_err-set.ensures.refused.halts _ _ (M Out ∷ left) _ p1)
 
@@ -624,7 +624,7 @@ after_unary-returns-then-next_is-clause-read t c =
 
 pub after_unary-returns-in_err-whole-clause-refused : goal.after_unary-returns-in_err-whole-clause-refused
 after_unary-returns-in_err-whole-clause-refused t c =
-    halts_so c.args.words.now c.args.spot (λ back. N (Left AfterUnary) ∷ back) (OfExpression c.args.left.place c.args.left.expression) c.from_residual-in_err-whole.result c.in_err-whole.field-0.0 c.from_residual-in_err-whole.ensures.1 (λ start all left values p.
+    halts_so c.args.words.now c.args.spot (λ back. N (Left AfterUnary) ∷ back) (OfExpression c.args.left) c.from_residual-in_err-whole.result c.in_err-whole.field-0.0 c.from_residual-in_err-whole.ensures.1 (λ start all left values p.
     let p13 = by_rule (Left AfterUnary) 1 (after_number (drop c.args.spot.at c.args.words.now) (sym c.next_is.ensures ∙ c.if-next_is.false)) (lit< tt) p in
     c.in_err-whole.ensures.refused.halts _ _ (M Out ∷ left) _ p13)
 

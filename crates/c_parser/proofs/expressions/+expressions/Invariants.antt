@@ -85,7 +85,7 @@ decreases-arguments-loop-alloc l = length l.words - l.here.at
 
 abbrev pub invariant-operands-loop-operator : goal.invariant-operands-loop-operator
 invariant-operands-loop-operator l = record {
-  turned : Turns l.words l.fn.spot (operands_between 0 l.fn.bound) (OfExpression l.fn.left.place l.fn.left.expression) l.here (operands_between l.passed l.fn.bound) (OfExpression l.whole.place l.whole.expression);
+  turned : Turns l.words l.fn.spot (operands_between 0 l.fn.bound) (OfExpression l.fn.left) l.here (operands_between l.passed l.fn.bound) (OfExpression l.whole);
   low : l.passed ≤ l.fn.bound;
 }
 
@@ -94,7 +94,7 @@ decreases-operands-loop-operator l = length l.words - l.here.at
 
 abbrev pub invariant-suffixes-loop-alloc : goal.invariant-suffixes-loop-alloc
 invariant-suffixes-loop-alloc l =
-    Turns l.words l.fn.spot (λ back. N form.Suffixes ∷ back) (OfExpression l.fn.left.place l.fn.left.expression) l.here (λ back. N form.Suffixes ∷ back) (OfExpression l.whole.place l.whole.expression)
+    Turns l.words l.fn.spot (λ back. N form.Suffixes ∷ back) (OfExpression l.fn.left) l.here (λ back. N form.Suffixes ∷ back) (OfExpression l.whole)
 
 abbrev pub decreases-suffixes-loop-alloc : goal.decreases-suffixes-loop-alloc
 decreases-suffixes-loop-alloc l = length l.words - l.here.at

@@ -8,12 +8,12 @@ use Rattle.c_parser.proofs.expressions.member.Goals as goal
 
 pub returns-in_err-one-clause-refused : goal.returns-in_err-one-clause-refused
 returns-in_err-one-clause-refused c =
-    halts_so c.args.words.now c.args.spot (λ back. T terminal.Dot ∷ L terminal.Name ∷ M CountOperator ∷ B MakeDot ∷ back) (OfExpression c.args.left.place c.args.left.expression) c.from_residual.result c.in_err-one.field-0.0 c.from_residual.ensures.1 (λ start all left values p.
+    halts_so c.args.words.now c.args.spot (λ back. T terminal.Dot ∷ L terminal.Name ∷ M CountOperator ∷ B MakeDot ∷ back) (OfExpression c.args.left) c.from_residual.result c.in_err-one.field-0.0 c.from_residual.ensures.1 (λ start all left values p.
     stops_at (T terminal.Dot ∷ []) _ c.in_err-one.field-0.0 p c.in_err-one.ensures.no_token)
 
 pub returns-in_err-word-clause-refused : goal.returns-in_err-word-clause-refused
 returns-in_err-word-clause-refused c =
-    halts_so c.args.words.now c.args.spot (λ back. T terminal.Dot ∷ L terminal.Name ∷ M CountOperator ∷ B MakeDot ∷ back) (OfExpression c.args.left.place c.args.left.expression) c.from_residual-in_err-word.result c.in_err-word.field-0.0 c.from_residual-in_err-word.ensures.1 (λ start all left values p.
+    halts_so c.args.words.now c.args.spot (λ back. T terminal.Dot ∷ L terminal.Name ∷ M CountOperator ∷ B MakeDot ∷ back) (OfExpression c.args.left) c.from_residual-in_err-word.result c.in_err-word.field-0.0 c.from_residual-in_err-word.ensures.1 (λ start all left values p.
     let p1 = read c.in_ok-one.ensures.token p in
     let m1 : Moves c.args.words.now c.args.spot c.in_ok-one.one = moved_by_one c.in_ok-one.ensures.place c.in_ok-one.ensures.more (c.requires.shallow.ended) in
     stops_at (L terminal.Name ∷ []) _ c.in_err-word.field-0.0 p1 c.in_err-word.ensures.no_leaf)
