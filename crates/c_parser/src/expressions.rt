@@ -80,8 +80,11 @@ fn bracket(alloc: Global, words: &[Word], spot: Spot) -> Result<(Expression, Spo
     let (place, one) = take_here(words, spot, Terminal::Open)?;
     let (inner, two) = expression(alloc, words, one)?;
     let (_, three) = take(words, two, Terminal::Close)?;
-    let inner = Boxed::new(alloc, inner)?;
-    Ok((at_place(place, ExpressionKind::Bracket { inner }), three))
+    let whole = Boxed::new(alloc, inner)?;
+    Ok((
+        at_place(place, ExpressionKind::Bracket { inner: whole }),
+        three,
+    ))
 }
 
 /// A name, a number, a character, a string, or an expression in brackets.

@@ -46,7 +46,7 @@ bracket-returns-clause-read t c =
     let m3 : Moves c.args.words.now c.args.spot c.in_ok-inner.two = moved_then m2 (c.in_ok-inner.ensures.read.moves) in
     let p4 = read c.in_ok-three.ensures.token p3 in
     let m4 : Moves c.args.words.now c.args.spot c.in_ok-three.three = moved_then m3 (moved_by_one c.in_ok-three.ensures.place c.in_ok-three.ensures.more (m3.ended)) in
-    record { leads = made (λ built. refl) p4; moves = m4 }
+    record { leads = rw (c.at_place.ensures, c.in_ok-whole.ensures) (made (λ built. refl) p4); moves = m4 }
 
 pub primary-returns-in_err-inner-clause-refused : goal.primary-returns-in_err-inner-clause-refused
 primary-returns-in_err-inner-clause-refused t c =
