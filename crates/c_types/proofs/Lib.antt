@@ -1,4 +1,0 @@
--- Lemmas.
-mod ListLemmas
-mod TypeLemmas
-mod AnswerLemmas

@@ -1,0 +1,3 @@
+-- What names mean where.
+pub mod Latest
+pub mod Scopes

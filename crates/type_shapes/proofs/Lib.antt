@@ -1,0 +1,3 @@
+-- Lemmas.
+pub mod ListLemmas
+mod TypeLemmas

@@ -1,0 +1,3 @@
+-- What types are alike, and what they take.
+pub mod Types
+pub mod Sizes
