@@ -180,7 +180,8 @@ pub enum StmtKind {
     Block {
         items: Items<Stmt>,
     },
-    /// A local's declaration. `start` is the assignment of its initialiser.
+    /// A local's declaration. `local` is its position in `locals`, without the parameters that a `Local` node counts first. `start` is the
+    /// assignment of its initialiser.
     Declare {
         local: u32,
         start: Option<Boxed<Expr>>,
