@@ -14,6 +14,8 @@ use Rattle.c_ast.specs.declared.typed.LogicOp.TheVariants as logic
 use Rattle.c_ast.specs.declared.program.InfixOp.{InfixOp}
 use Rattle.c_ast.specs.declared.program.InfixOp.TheVariants.{Either, Both, BitOr, BitXor, BitAnd, Equal, NotEqual, Less, LessEqual, Greater, GreaterEqual, ShiftLeft, ShiftRight, Add, Subtract, Multiply, Divide, Remainder}
 use Rattle.type_rules.specs.declared.rules.TheConstants.{K2, K4, K5, K6, K7, K10}
+use Rattle.type_rules.specs.declared.operators.Operator.{Operator}
+use Rattle.type_rules.specs.declared.operators.Operator.TheVariants.{Logic, Binary}
 use Rattle.type_rules.specs.declared.operators.Sort.{Sort}
 use Rattle.type_rules.specs.declared.operators.Sort.TheVariants.{Decides, Compares, Sums, Subtracts, Computes}
 use Rattle.type_rules.specs.declared.parts.Form.{Form}
@@ -147,31 +149,30 @@ can_be_right Sums t = is_integer t || can_step t
 can_be_right Subtracts t = is_integer t || can_step t
 can_be_right Computes t = is_integer t
 
-abbrev pub binary_kind : BinaryOp → Expr → Expr → ExprKind
-binary_kind op a b = node.Binary op a b
+-- an operator by the name that it has in the typed tree
+abbrev pub operator_of : InfixOp → Operator
+operator_of Either = Logic logic.Either
+operator_of Both = Logic logic.Both
+operator_of BitOr = Binary binary.Or
+operator_of BitXor = Binary binary.Xor
+operator_of BitAnd = Binary binary.And
+operator_of Equal = Binary binary.Eq
+operator_of NotEqual = Binary binary.Ne
+operator_of Less = Binary binary.Less
+operator_of LessEqual = Binary binary.LessEq
+operator_of Greater = Binary binary.Greater
+operator_of GreaterEqual = Binary binary.GreaterEq
+operator_of ShiftLeft = Binary binary.Shl
+operator_of ShiftRight = Binary binary.Shr
+operator_of Add = Binary binary.Add
+operator_of Subtract = Binary binary.Sub
+operator_of Multiply = Binary binary.Mul
+operator_of Divide = Binary binary.Div
+operator_of Remainder = Binary binary.Rem
 
-abbrev pub logic_kind : LogicOp → Expr → Expr → ExprKind
-logic_kind op a b = node.Logic op a b
-
-unfoldable pub infix_kind : InfixOp → Expr → Expr → ExprKind
-infix_kind Either a b = logic_kind logic.Either a b
-infix_kind Both a b = logic_kind logic.Both a b
-infix_kind BitOr a b = binary_kind binary.Or a b
-infix_kind BitXor a b = binary_kind binary.Xor a b
-infix_kind BitAnd a b = binary_kind binary.And a b
-infix_kind Equal a b = binary_kind binary.Eq a b
-infix_kind NotEqual a b = binary_kind binary.Ne a b
-infix_kind Less a b = binary_kind binary.Less a b
-infix_kind LessEqual a b = binary_kind binary.LessEq a b
-infix_kind Greater a b = binary_kind binary.Greater a b
-infix_kind GreaterEqual a b = binary_kind binary.GreaterEq a b
-infix_kind ShiftLeft a b = binary_kind binary.Shl a b
-infix_kind ShiftRight a b = binary_kind binary.Shr a b
-infix_kind Add a b = binary_kind binary.Add a b
-infix_kind Subtract a b = binary_kind binary.Sub a b
-infix_kind Multiply a b = binary_kind binary.Mul a b
-infix_kind Divide a b = binary_kind binary.Div a b
-infix_kind Remainder a b = binary_kind binary.Rem a b
+abbrev pub infix_kind : Operator → Expr → Expr → ExprKind
+infix_kind (Logic op) a b = node.Logic op a b
+infix_kind (Binary op) a b = node.Binary op a b
 
 unfoldable pub wrong_operand : Sort → Expr → Expr → ℕ
 wrong_operand sort a b = if is_right sort a.ty then b.place else a.place
@@ -180,7 +181,7 @@ wrong_operand sort a b = if is_right sort a.ty then b.place else a.place
 unfoldable pub infix_node : ℕ → InfixOp → Form → Expr → Form → Expr → Notes → Judged
 infix_node place op form_a a form_b b notes = elim (infix_type (sort_of op) form_a a.ty form_b b.ty) [
   | None ↦ faulty K4 (wrong_operand (sort_of op) a b) notes
-  | Some t ↦ given place t (infix_kind op a b) notes
+  | Some t ↦ given place t (infix_kind (operator_of op) a b) notes
 ]
 
 -- one operand has no type: K4 at the other where it would be wrong beside any operand
@@ -406,9 +407,13 @@ unfoldable pub fitted_at : Part → Option Ty → Notes → Judged
 fitted_at p None notes = untyped notes
 fitted_at p (Some t) notes = fitted_part p t notes
 
+abbrev pub with_node : List Expr → Option Expr → List Expr
+with_node nodes None = nodes
+with_node nodes (Some e) = nodes ++ e ∷ []
+
 abbrev pub with_argument : ℕ → List Expr → Bool → Option Expr → Notes → Arguments
-with_argument done nodes whole None notes = record { done = done + 1; nodes = nodes; whole = false; notes = notes }
-with_argument done nodes whole (Some e) notes = record { done = done + 1; nodes = nodes ++ e ∷ []; whole = whole; notes = notes }
+with_argument done nodes whole node notes =
+    record { done = done + 1; nodes = with_node nodes node; whole = whole && is_some node; notes = notes }
 
 abbrev pub expected : Option Signature → List Ty
 expected None = []

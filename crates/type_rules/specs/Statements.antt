@@ -218,36 +218,59 @@ leave place in_loop kind notes = if in_loop then stated place kind notes else un
 abbrev pub block_node : ℕ → List Stmt → Option Stmt
 block_node place items = Some (statement place (node.Block items))
 
-abbrev pub statement_step : {I K : Type 0} → StatementKind-F I K BlockRule StatementRule → ℕ → StatementRule
-statement_step (Block rule) place frame in_loop known notes =
+-- what a block declares is known to its end
+unfoldable pub block_stated : BlockRule → ℕ → StatementRule
+block_stated rule place frame in_loop known notes =
     let inside : Inside = rule frame in_loop (length known.scope) known notes in
     record { node = block_node place inside.items; notes = inside.notes }
-statement_step (Eval value) place frame in_loop known notes =
+
+unfoldable pub eval_stated : Option Expression → ℕ → StatementRule
+eval_stated value place frame in_loop known notes =
     let e : Perhaps = perhaps value known notes in
     record { node = eval_of place e.node; notes = e.notes }
-statement_step (If on first second) place frame in_loop known notes =
+
+unfoldable pub if_stated : Expression → StatementRule → Option StatementRule → ℕ → StatementRule
+if_stated on first second place frame in_loop known notes =
     let c : Judged = condition_of on known notes in
     let a : Stated = first frame in_loop known c.notes in
     let b : Branch = branch second frame in_loop known a.notes in
     record { node = if_of place c.node a.node b.node; notes = b.notes }
-statement_step (While on body) place frame in_loop known notes =
+
+unfoldable pub while_stated : Expression → StatementRule → ℕ → StatementRule
+while_stated on body place frame in_loop known notes =
     let c : Judged = condition_of on known notes in
     let s : Stated = body frame true known c.notes in
     record { node = while_of place c.node s.node; notes = s.notes }
-statement_step (DoWhile body on) place frame in_loop known notes =
+
+unfoldable pub do_while_stated : StatementRule → Expression → ℕ → StatementRule
+do_while_stated body on place frame in_loop known notes =
     let s : Stated = body frame true known notes in
     let c : Judged = condition_of on known s.notes in
     record { node = do_while_of place s.node c.node; notes = c.notes }
-statement_step (For first on after body) place frame in_loop known notes =
+
+unfoldable pub for_stated : Option Expression → Option Expression → Option Expression → StatementRule → ℕ → StatementRule
+for_stated first on after body place frame in_loop known notes =
     let a : Perhaps = perhaps first known notes in
     let c : Perhaps = perhaps_condition on known a.notes in
     let b : Perhaps = perhaps after known c.notes in
     let s : Stated = body frame true known b.notes in
     record { node = for_of place a.node c.node b.node s.node; notes = s.notes }
-statement_step (Return None) place frame in_loop known notes = bare_return place frame.result notes
-statement_step (Return (Some e)) place frame in_loop known notes =
+
+abbrev pub return_stated : Option Expression → ℕ → StatementRule
+return_stated None place frame in_loop known notes = bare_return place frame.result notes
+return_stated (Some e) place frame in_loop known notes =
     let value : Typing = type_of e false known notes in
     return_of place frame.result value.part value.notes
+
+abbrev pub statement_step : {I K : Type 0} → StatementKind-F I K BlockRule StatementRule → ℕ → StatementRule
+statement_step (Block rule) place frame in_loop known notes = block_stated rule place frame in_loop known notes
+statement_step (Eval value) place frame in_loop known notes = eval_stated value place frame in_loop known notes
+statement_step (If on first second) place frame in_loop known notes = if_stated on first second place frame in_loop known notes
+statement_step (While on body) place frame in_loop known notes = while_stated on body place frame in_loop known notes
+statement_step (DoWhile body on) place frame in_loop known notes = do_while_stated body on place frame in_loop known notes
+statement_step (For first on after body) place frame in_loop known notes =
+    for_stated first on after body place frame in_loop known notes
+statement_step (Return value) place frame in_loop known notes = return_stated value place frame in_loop known notes
 statement_step Break place frame in_loop known notes = leave place in_loop node.Break notes
 statement_step Continue place frame in_loop known notes = leave place in_loop node.Continue notes
 

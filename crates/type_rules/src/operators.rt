@@ -1,6 +1,7 @@
 //! The rules of operators.
 
 use c_ast::Ty;
+use c_ast::typed::{BinaryOp, LogicOp};
 
 /// A member by its number, and its type behind an object.
 #[derive(Drop)]
@@ -17,4 +18,11 @@ pub enum Sort {
     Sums,
     Subtracts,
     Computes,
+}
+
+/// An operator between two operands, by the name that it has in the typed tree.
+#[derive(Clone, Copy)]
+pub enum Operator {
+    Logic(LogicOp),
+    Binary(BinaryOp),
 }

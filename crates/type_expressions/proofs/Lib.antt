@@ -1,0 +1,3 @@
+-- Lemmas.
+mod ArgumentLemmas
+pub mod Measures
