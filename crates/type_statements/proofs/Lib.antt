@@ -1,0 +1,4 @@
+-- Lemmas.
+mod BlockLemmas
+pub mod GrowthLemmas
+pub mod Measures
