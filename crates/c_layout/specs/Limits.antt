@@ -42,11 +42,11 @@ params_limit functions = first_above 4 (map most_values functions)
 unfoldable pub frame_limit : List Extent → List Function → Option ℕ
 frame_limit structs functions = first_above 16384 (map (frame_size structs) functions)
 
--- how much of a segment is taken by so many bytes at its start and a stack for each entry
+-- what a segment has to hold: the bytes before the first offset, so many start bytes, and a stack for each entry
 abbrev pub needed : ℕ → ℕ → ℕ → ℕ
 needed length stack_size entries = first_offset + length + entries * stack_size
 
--- a multiple of 16 from 256 on, and all stacks lie within the segment
+-- a multiple of 16 from 256 on, and the segment holds a stack of this size for each entry behind the first offset
 abbrev pub is_stack_size : ℕ → ℕ → ℕ → Bool
 is_stack_size seg_size stack_size entries =
     (stack_size % 16 == 0) && nat_le 256 stack_size && nat_le (needed 0 stack_size entries) seg_size

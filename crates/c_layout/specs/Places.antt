@@ -5,7 +5,7 @@ use Rattle.c_ast.specs.declared.typed.Local.{Local}
 use Rattle.type_shapes.specs.declared.sizes.Extent.{Extent}
 use Rattle.type_shapes.specs.Sizes.{nothing, extent_of, aligned, with_member, closed}
 
--- one more member of a struct, which may be one of the structs before it
+-- a struct so far with one more member; where the member is a struct, it is one of those before
 abbrev pub with_local : List Extent → Extent → Local → Extent
 with_local before so_far member = with_member before so_far member.ty
 

@@ -6,29 +6,32 @@ ghost use Rattle.std.specs.Prelude.{◌≡◌};
 use cv_word::NoMemory;
 use thiserror::Error;
 
-/// What a program has too much of. The limits are tried in this order.
+/// Which limit is passed. The limits are tried in this order.
 #[derive(Clone, Copy, Debug, PartialEq, Eq)]
 pub enum LimitKind {
     /// More than 8 entries. The value is their number.
     Entries,
-    /// More than 20,000 expression nodes and statements. The value is their number.
+    /// More than 20,000 expression nodes and statements in the whole program. The value is their number.
     Nodes,
-    /// More than 4 parameters or arguments. The value is their number in the first such function.
+    /// More than 4 parameters, or more than 4 arguments of a call. The value is the greatest of the number of
+    /// parameters and the numbers of arguments of its calls, in the first function where that is above 4.
     Params,
-    /// A frame of more than 16,384 bytes. The value is the size of the first.
+    /// A frame of more than 16,384 bytes. The value is the size of the first such frame.
     Frame,
-    /// A stack whose size is no multiple of 16 or is below 256, or stacks that the segment doesn't hold. The value is
-    /// the stack's size.
+    /// A stack whose size is no multiple of 16 or is below 256, or stacks that the segment doesn't hold behind its
+    /// first 4096 bytes. The value is the size of one stack.
     Stack,
-    /// A segment that doesn't hold its start bytes and the stacks: the value is what it would have to hold. Or a size
-    /// that is no multiple of 4096 from 65,536 to 67,108,864: the value is this size.
+    /// A segment that doesn't hold its first 4096 bytes, its start bytes and the stacks. The value is their sum in the
+    /// segment with more start bytes. If the sum fits: a size that is no multiple of 4096 from 65,536 to 67,108,864.
+    /// The value is then this size.
     Segment,
 }
 
 /// Why a program has no layout.
 #[derive(Clone, Copy, Debug, PartialEq, Eq, Error)]
 pub enum LayoutError {
-    /// Memory was refused. With ample memory it isn't.
+    /// Memory was refused, or a size or an offset is 2^64 bytes or more. With ample memory no smaller program is
+    /// refused so.
     #[error("no memory")]
     NoMemory,
     /// The first limit that is passed, and its value.

@@ -17,7 +17,8 @@ use type_shapes::Extent;
 pub struct Frame {
     pub params: Items<u32>,
     pub locals: Items<u32>,
-    /// The slot of the first expression node. Each other one is 8 bytes further.
+    /// The slot of the first expression node. Each next slot lies 8 bytes behind the one before. The order of the slots
+    /// is that of the nodes: a node comes before its parts.
     pub nodes: u32,
     /// A multiple of 8.
     pub size: u32,

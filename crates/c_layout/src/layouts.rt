@@ -11,8 +11,8 @@ pub struct Layout {
     /// The offset of each string in the public segment.
     pub strings: Items<u32>,
     pub frames: Items<Frame>,
-    /// From offset 4096 to the end of the last object in the public segment.
+    /// From offset 4096 to the end of the last global or string in the public segment, and 0 if there is none.
     pub pub_len: u32,
-    /// The same in the private segment.
+    /// From offset 4096 to the end of the last global in the private segment, and 0 if there is none.
     pub priv_len: u32,
 }

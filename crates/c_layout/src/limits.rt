@@ -98,7 +98,7 @@ fn frame_limit(
     Ok(None)
 }
 
-/// How much of a segment so many start bytes and the stacks take.
+/// What a segment has to hold: the bytes before the first offset, so many start bytes, and a stack for each entry.
 fn needed(length: u64, stack_size: u32, entries: u32) -> Result<u64, NoMemory>
     ensures { IfOk result (λ n. n ≡ def.needed length stack_size entries) }
 {

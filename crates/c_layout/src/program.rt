@@ -15,8 +15,9 @@ use c_ast::Typed;
 use cv_word::Taint;
 use std::alloc::Global;
 
-/// The layout of a program under an assignment of its qualifier variables. `Limit` comes exactly where a limit is
-/// passed, and names the first. A program of 2^64 bytes or more has no room: that is `NoMemory` too.
+/// The layout of a program under an assignment of its qualifier variables. `NoMemory` comes where memory is refused, or
+/// where a size or an offset is 2^64 bytes or more. Otherwise `Limit` comes exactly where a limit is passed, and names
+/// the first.
 pub fn layout(
     alloc: Global,
     typed: &Typed,
