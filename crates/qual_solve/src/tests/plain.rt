@@ -1,14 +1,11 @@
 //! A plain search over all assignments of three variables, and over all chains of five numbers at most.
 
-ghost use Rattle.std.specs.Prelude.{◌<◌, ◌≤◌};
+ghost use Rattle.std.specs.Prelude.{◌≤◌};
 
 use super::{Constraint, PRIVATE, PUBLIC, Qual, Taint};
 
 /// How many assignments three variables have.
 pub const ASSIGNMENTS: u8 = 8;
-
-/// How many lists of five numbers below five there are.
-const CHAINS: u32 = 3125;
 
 fn taint(bit: u8) -> Taint {
     if bit == 1 { Taint::Priv } else { Taint::Pub }
@@ -115,9 +112,23 @@ fn numbers(code: u32) -> [u64; 5] {
     ]
 }
 
+/// How many lists of so many numbers below five there are.
+fn chains_of(length: usize) -> u32
+    ensures { result ≤ 3125 }
+{
+    match length {
+        0 => 1,
+        1 => 5,
+        2 => 25,
+        3 => 125,
+        4 => 625,
+        _ => 3125,
+    }
+}
+
 /// How many codes share their first so many numbers.
 fn codes_from(length: usize) -> u32
-    ensures { 0 < result }
+    ensures { result ≤ 3125 }
 {
     match length {
         0 => 3125,
@@ -133,9 +144,9 @@ fn codes_from(length: usize) -> u32
 fn chain_of(list: &[Constraint], at: u64, length: usize) -> Option<[u64; 5]>
     requires { length ≤ 5 }
 {
-    for code in 0..CHAINS {
-        let found = numbers(code);
-        if code % codes_from(length) == 0 && is_chain(list, &found[..length], at) {
+    for front in 0..chains_of(length) {
+        let found = numbers(front * codes_from(length));
+        if is_chain(list, &found[..length], at) {
             return Some(found);
         }
     }

@@ -1,10 +1,11 @@
-//! Every list of up to 3 constraints over 2 variables, and many of 5 over 3.
+//! Every list of up to 3 constraints over 2 variables, and every list of 5 over 3.
 
 ghost use Rattle.std.specs.Prelude.{◌<◌};
 
 use super::plain::{first_broken, is_always_private, is_best_chain, is_satisfiable};
 use super::{Constraint, Fail, PRIVATE, PUBLIC, Qual, SolveError, Taint, are_over, pair, solve};
 use std::alloc::Global;
+use std::process::Abort;
 
 /// The constants first, so that the first four are the ends over two variables.
 const ENDS: [Qual; 5] = [PUBLIC, PRIVATE, Qual::Var(0), Qual::Var(1), Qual::Var(2)];
@@ -57,25 +58,41 @@ fn solves_every_list_of_three(rt: HostRuntime) {
     }
 }
 
-/// The next of a row of numbers below 2^31 that looks random.
-fn next_seed(seed: u64) -> u64 {
-    (seed % 0x8000_0000 * 1_103_515_245 + 12_345) % 0x8000_0000
-}
-
-/// A constraint over three variables by a seed's upper bits.
-fn drawn(seed: u64) -> Constraint {
-    constraint((seed / 65_536 % 25) as usize, 5)
+/// Every list of five constraints over three variables whose first has this left end.
+fn solves_lists_from(rt: &impl Abort, alloc: Global, end: usize) {
+    for code in 0..1_953_125usize {
+        let list = [
+            pair(ENDS[end % 5], ENDS[code % 5]),
+            constraint(code / 5, 5),
+            constraint(code / 125, 5),
+            constraint(code / 3_125, 5),
+            constraint(code / 78_125, 5),
+        ];
+        assert!(rt; is_right(alloc, &list), "list {code} from {end}");
+    }
 }
 
 #[test]
-fn solves_many_lists_of_five(rt: HostRuntime) {
-    let mut seed = 1;
-    for count in 0..50_000u32 {
-        let mut list = [pair(PUBLIC, PUBLIC); 5];
-        for place in 0..5usize {
-            seed = next_seed(seed);
-            list[place] = drawn(seed);
-        }
-        assert!(rt; is_right(rt.alloc(), &list), "list {count}");
-    }
+fn solves_lists_of_five_from_public(rt: HostRuntime) {
+    solves_lists_from(&rt, rt.alloc(), 0);
+}
+
+#[test]
+fn solves_lists_of_five_from_private(rt: HostRuntime) {
+    solves_lists_from(&rt, rt.alloc(), 1);
+}
+
+#[test]
+fn solves_lists_of_five_from_the_first_variable(rt: HostRuntime) {
+    solves_lists_from(&rt, rt.alloc(), 2);
+}
+
+#[test]
+fn solves_lists_of_five_from_the_second_variable(rt: HostRuntime) {
+    solves_lists_from(&rt, rt.alloc(), 3);
+}
+
+#[test]
+fn solves_lists_of_five_from_the_third_variable(rt: HostRuntime) {
+    solves_lists_from(&rt, rt.alloc(), 4);
 }
