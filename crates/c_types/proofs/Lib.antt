@@ -1,0 +1,4 @@
+-- Lemmas.
+pub mod ByteLemmas
+pub mod KnownLemmas
+pub mod LeastLemmas

@@ -1,0 +1,2 @@
+-- Definitions of the code's own.
+pub mod Faults

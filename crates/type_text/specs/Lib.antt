@@ -1,0 +1,2 @@
+-- Definitions of the text of types.
+pub mod Texts
