@@ -46,11 +46,11 @@ pub fn typed_of(rt: &impl Abort, alloc: Global, source: &[u8]) -> Result<Typed, 
 }
 
 /// The rule that a source breaks, and the place that is told.
-pub fn broken(rt: &impl Abort, alloc: Global, source: &[u8]) -> Result<Option<(u8, u32)>, Fail> {
+pub fn broken(rt: &impl Abort, alloc: Global, source: &[u8]) -> Result<Option<(u8, u64)>, Fail> {
     let program = program_of(rt, alloc, source)?;
     match type_program(alloc, &program) {
         Ok(_tree) => Ok(None),
-        Err(TypeError::TypeFault { rule, place }) => Ok(Some((rule, place))),
+        Err(TypeError::TypeFault { rule, place }) => Ok(Some((rule, u64::from(place)))),
         Err(TypeError::NoMemory) => Err(Fail::from(TypeError::NoMemory)),
     }
 }
@@ -62,7 +62,7 @@ pub fn check(rt: &impl Abort, alloc: Global, rows: &[(u8, &str)]) -> Result<(), 
         let marked = take_mark(alloc, text)?;
         let told = broken(rt, alloc, marked.source.as_slice())?;
         let want = match marked.place {
-            Some(place) => Some((rule, place as u32)),
+            Some(place) => Some((rule, place as u64)),
             None => None,
         };
         assert_eq!(rt; told, want, "{}", text);

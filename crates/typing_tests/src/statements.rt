@@ -16,7 +16,10 @@ fn k8_and_k9(rt: HostRuntime) -> Result<(), Fail> {
             (0, "void f(void){ return; }"),
             (9, "int main(){ @break; return 0; }"),
             (9, "int main(){ if (1) @continue; return 0; }"),
-            (0, "int main(){ while (1) { if (1) break; else continue; } do break; while (1); for (;;) continue; return 0; }"),
+            (
+                0,
+                "int main(){ while (1) { if (1) break; else continue; } do break; while (1); for (;;) continue; return 0; }",
+            ),
             (8, "void f(void){ @return f(); }"),
             (9, "int main(){ while (1) ; @break; return 0; }"),
             (9, "int main(){ for (;;) { } { @continue; } return 0; }"),
