@@ -4,7 +4,7 @@ use crate::rows::{check_answers, check_lists};
 use std::rt::HostRuntime;
 use std::test::Fail;
 
-/// The least assignment, as the levels of each local from the outermost inwards.
+/// The least assignment, as the line of each local.
 #[test]
 fn least_assignments(rt: HostRuntime) -> Result<(), Fail> {
     check_answers(
@@ -13,11 +13,11 @@ fn least_assignments(rt: HostRuntime) -> Result<(), Fail> {
         &[
             (
                 "int main(){ private long k = priv_get(); long x; x = k; priv_put(x); return 0; }",
-                "main.k: priv, main.x: priv",
+                "main.k: private long\nmain.x: private long\n",
             ),
             (
                 "private char *p; int main(){ char *q; q = p; return 0; }",
-                "main.q: pub priv",
+                "main.q: private char *\n",
             ),
             (
                 "int f(int a,int b,int c,int d,int e){ return 0; } int main(){ return 0; }",
@@ -25,24 +25,24 @@ fn least_assignments(rt: HostRuntime) -> Result<(), Fail> {
             ),
             (
                 "int main(){ char b[4]; char *p; p = b; priv_in(p, 4); return 0; }",
-                "main.b: priv, main.p: pub priv",
+                "main.b: private char [4]\nmain.p: private char *\n",
             ),
             (
                 "private long k; int main(){ long a; long b; a = k; b = 1; if (b) return 1; return 0; }",
-                "main.a: priv, main.b: pub",
+                "main.a: private long\nmain.b: long\n",
             ),
             (
                 "struct S { long m; long n; }; private long k; int main(){ struct S s; long x; s.m = k; x = s.n; \
                 return 0; }",
-                "main.s: priv, main.x: priv",
+                "main.s: private struct S\nmain.x: private long\n",
             ),
             (
                 "private char *p; int main(){ char *q; long *r; q = (char *)(long)p; r = (long *)p; return 0; }",
-                "main.q: pub pub, main.r: pub priv",
+                "main.q: char *\nmain.r: private long *\n",
             ),
             (
                 "private long f(long a){ long x; x = a; return x; } int main(){ long y; y = f(1); return 0; }",
-                "f.x: pub, main.y: priv",
+                "f.x: long\nmain.y: private long\n",
             ),
         ],
     )
@@ -147,7 +147,7 @@ fn password(rt: HostRuntime) -> Result<(), Fail> {
         rt.alloc(),
         &[(
             PASSWORD,
-            "same.ok: priv, same.i: pub, main.typed: priv, main.res: priv, main.got: pub",
+            "same.ok: private long\nsame.i: long\nmain.typed: private char [16]\nmain.res: private char [1]\nmain.got: long\n",
         )],
     )
 }

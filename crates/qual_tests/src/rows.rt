@@ -3,8 +3,8 @@
 ghost use Rattle.std.specs.Prelude.{All, IsTrue, ◌↔◌};
 ghost use Rattle.qual_solve.specs.Assignments.{IsEnd, IsOver};
 
-use c_ast::typed::{Function, Local, Typed};
-use c_ast::{Program, Qual, Ty};
+use c_ast::typed::Typed;
+use c_ast::{Program, Qual};
 use c_lexer::lex;
 use c_parser::parse;
 use c_types::type_program;
@@ -15,6 +15,7 @@ use std::alloc::Global;
 use std::fmt::Write;
 use std::process::Abort;
 use std::test::Fail;
+use type_text::local_lines;
 
 fn program_of(rt: &impl Abort, alloc: Global, source: &[u8]) -> Result<Program, Fail> {
     assert!(rt;
@@ -101,67 +102,17 @@ fn are_over(vars: u32, list: &[Constraint]) -> bool
     list.iter().all(|constraint| is_over(vars, constraint))
 }
 
-fn write_level(out: &mut String, q: Qual, taints: &[Taint]) -> Result<(), Fail> {
-    write!(out, " ")?;
-    match q {
-        Qual::Fixed(taint) => write_taint(out, taint),
-        Qual::Var(number) => match taints.get(number as usize) {
-            Some(taint) => write_taint(out, *taint),
-            None => write_end(out, q),
-        },
-    }
-}
-
-/// The levels of a type from the outermost inwards, without those of a function's type.
-fn write_levels(out: &mut String, ty: &Ty, taints: &[Taint]) -> Result<(), Fail> {
-    match ty {
-        Ty::Int { q, .. } | Ty::Struct { q, .. } => write_level(out, *q, taints),
-        Ty::Ptr { to, q } => {
-            write_level(out, *q, taints)?;
-            write_levels(out, to.get(), taints)
-        }
-        Ty::Array { elem, .. } => write_levels(out, elem.get(), taints),
-        Ty::Void | Ty::Fun { .. } => Ok(()),
-    }
-}
-
-fn write_name(out: &mut String, program: &Program, name: u32) -> Result<(), Fail> {
-    if let Some(text) = program.names.get(name as usize) {
-        for byte in text.as_slice() {
-            out.push(*byte as char)?;
-        }
-    }
-    Ok(())
-}
-
-/// `FUNCTION.NAME: LEVELS`
-fn write_local(
-    out: &mut String,
-    program: &Program,
-    function: &Function,
-    local: &Local,
-    taints: &[Taint],
-) -> Result<(), Fail> {
-    write_name(out, program, function.name)?;
-    write!(out, ".")?;
-    write_name(out, program, local.name)?;
-    write!(out, ":")?;
-    write_levels(out, &local.ty, taints)
-}
-
-fn write_locals(
+/// The lines of the locals, each with its line feed.
+fn write_lines(
+    alloc: Global,
     out: &mut String,
     program: &Program,
     typed: &Typed,
     taints: &[Taint],
 ) -> Result<(), Fail> {
-    for function in typed.functions.as_slice() {
-        for local in function.locals.as_slice() {
-            if !out.is_empty() {
-                write!(out, ", ")?;
-            }
-            write_local(out, program, function, local, taints)?;
-        }
+    let lines = local_lines(alloc, program.names.as_slice(), typed, taints)?;
+    for byte in lines.as_slice() {
+        out.push(*byte as char)?;
     }
     Ok(())
 }
@@ -198,13 +149,13 @@ fn write_answer(
         "each variable is one of the tree's"
     );
     match solve(alloc, typed.vars, &list) {
-        Ok(taints) => write_locals(out, program, &typed, taints.as_slice()),
+        Ok(taints) => write_lines(alloc, out, program, &typed, taints.as_slice()),
         Err(SolveError::Leak { at, chain }) => write_leak(out, list.as_slice(), at, &chain),
         Err(SolveError::NoMemory) => Err(Fail::from(SolveError::NoMemory)),
     }
 }
 
-/// Checks what is solved for each row's source: the levels of its locals, or a leak.
+/// Checks what is solved for each row's source: the lines of its locals, or a leak.
 pub fn check_answers(rt: &impl Abort, alloc: Global, rows: &[(&str, &str)]) -> Result<(), Fail> {
     for row in rows {
         let (source, want) = *row;

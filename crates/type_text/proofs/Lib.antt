@@ -1,2 +1,2 @@
 -- Lemmas.
-pub mod TextLemmas
+mod Measures

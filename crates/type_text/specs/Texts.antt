@@ -1,5 +1,5 @@
 -- The types of locals as text, a line for each.
-use Rattle.std.specs.Prelude.{ℕ, ◌+◌, ◌==◌, List, [], ◌∷◌, ◌++◌, Some, None, codes, map, slice_get, if◌then◌else◌}
+use Rattle.std.specs.Prelude.{ℕ, ◌==◌, List, [], ◌∷◌, ◌++◌, Some, None, codes, map, slice_get, if◌then◌else◌}
 use Rattle.std.specs.List.{flat_map}
 use Rattle.std.specs.Fmt.{decimal}
 use Rattle.cv_word.specs.declared.registers.Taint.{Taint}
@@ -58,18 +58,14 @@ pub record Said : Type 0 where
 abbrev pub object : List ℕ → Said
 object text = record { text = text; before = text ++ codes " *"; behind = [] }
 
--- before each but the first
-abbrev pub comma_before : ℕ → List ℕ
-comma_before position = if position == 0 then [] else codes ", "
-
--- from a position on
-abbrev pub listed_from : ℕ → List (List ℕ) → List ℕ
-listed_from position [] = []
-listed_from position (text ∷ texts) = comma_before position ++ (text ++ listed_from (position + 1) texts)
+-- with a comma before each
+abbrev pub further : List (List ℕ) → List ℕ
+further texts = flat_map (λ text. codes ", " ++ text) texts
 
 -- with a comma between two
 abbrev pub listed : List (List ℕ) → List ℕ
-listed texts = listed_from 0 texts
+listed [] = []
+listed (text ∷ texts) = text ++ further texts
 
 abbrev pub texts : List Said → List (List ℕ)
 texts = map (λ p. p.text)

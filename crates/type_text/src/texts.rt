@@ -187,21 +187,32 @@ fn put_listed(
 ) -> Result<(), NoMemory>
     ensures { OnOk result (out.new.items ≡ out.old.items ++ def.listed (def.texts (map (def.said (def.reading names.now structs.now assignment.now)) params.now))) }
 {
-    for (i, ty) in params.iter().enumerate() {
-        put_comma(out, i)?;
+    match params {
+        [] => Ok(()),
+        [first, rest @ ..] => {
+            put_type(alloc, out, names, structs, assignment, first)?;
+            put_further(alloc, out, names, structs, assignment, rest)
+        }
+    }
+}
+
+/// With a comma before each.
+#[cycle(types)]
+fn put_further(
+    alloc: Global,
+    out: &mut Vec<u8>,
+    names: &[Text],
+    structs: &[StructDef],
+    assignment: &[Taint],
+    params: &[Ty],
+) -> Result<(), NoMemory>
+    ensures { OnOk result (out.new.items ≡ out.old.items ++ def.further (def.texts (map (def.said (def.reading names.now structs.now assignment.now)) params.now))) }
+{
+    for ty in params {
+        put(out, b", ")?;
         put_type(alloc, out, names, structs, assignment, ty)?;
     }
     Ok(())
-}
-
-/// Before each but the first.
-fn put_comma(out: &mut Vec<u8>, i: usize) -> Result<(), NoMemory>
-    ensures { OnOk result (out.new.items ≡ out.old.items ++ def.comma_before i) }
-{
-    if i == 0 {
-        return Ok(());
-    }
-    put(out, b", ")
 }
 
 #[tactic(auto, unfolding(crate::specs::Texts::said))]
